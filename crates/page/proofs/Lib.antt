@@ -1,0 +1,14 @@
+pub mod Scan
+pub mod Joins
+pub mod Lists
+pub mod Lines
+pub mod Numbered
+pub mod Assembled
+pub mod Pages
+pub mod Unique
+pub mod Prefix
+pub mod Verdict
+pub mod Reading
+pub mod Entries
+pub mod UnitLine
+pub mod Checking

@@ -1,0 +1,7 @@
+// The page: its format, and the check of one.
+mod field;
+mod layout;
+mod line;
+mod page;
+
+pub use page::check;
