@@ -28,7 +28,12 @@ impl Trial<'_> {
     }
 
     // The page should be refused at this line and column.
-    pub(crate) fn refused(&mut self, name: &str, page: &[u8], place: (u16, u16)) -> Result<(), AnyError> {
+    pub(crate) fn refused(
+        &mut self,
+        name: &str,
+        page: &[u8],
+        place: (u16, u16),
+    ) -> Result<(), AnyError> {
         let (line, column) = place;
         self.expect(name, page, Err(PageFault { line, column }))?;
         println!(self.rt, "{name}: line {line}, column {column}")?;

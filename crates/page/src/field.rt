@@ -8,6 +8,7 @@ ghost use Rattle.std.specs.Orderings.{Decides};
 ghost use Rattle.std.specs.Vec.{made};
 ghost use Rattle.page.specs.Readers.{EntryTold, FieldTold, MayStand, NumberTold};
 ghost use Rattle.page.specs.Rules.{letter as one-of};
+use crate::layout::MOST;
 use columns::Content;
 use columns::read;
 
@@ -16,13 +17,27 @@ use columns::read;
 pub struct FieldFault;
 
 // The number that the field shows, where it is one from `low` to `high`.
-pub(crate) fn number_in(field: &[u8], low: u16, high: u16) -> Result<u16, FieldFault>
+fn number_in(field: &[u8], low: u16, high: u16) -> Result<u16, FieldFault>
     ensures { λ r. ⌜ NumberTold low high (now (field .entry)) r ⌝ }
 {
     match read(field) {
         Content::Number(n) if n >= low as u32 && n <= high as u32 => Ok(n as u16),
         _ => Err(FieldFault),
     }
+}
+
+// The number of materials, or of units, that the field shows.
+pub(crate) fn count_in(field: &[u8]) -> Result<u16, FieldFault>
+    ensures { λ r. ⌜ NumberTold 1 512 (now (field .entry)) r ⌝ }
+{
+    number_in(field, 1, MOST)
+}
+
+// A line's running number, which the field should show.
+pub(crate) fn running_in(field: &[u8], number: u16) -> Result<u16, FieldFault>
+    ensures { λ r. ⌜ NumberTold number number (now (field .entry)) r ⌝ }
+{
+    number_in(field, number, number)
 }
 
 // Whether a number may stand in a list's field: it is at most the highest, and above the number in the field before.
@@ -37,7 +52,11 @@ fn may_stand(number: u32, highest: u16, above: Option<u16>) -> bool
 
 // What a list's field holds: nothing, or a material up to `highest` and above the number `above`. No number may follow
 // a blank field: there `above` is absent.
-pub(crate) fn entry_in(field: &[u8], highest: u16, above: Option<u16>) -> Result<Option<u16>, FieldFault>
+pub(crate) fn entry_in(
+    field: &[u8],
+    highest: u16,
+    above: Option<u16>,
+) -> Result<Option<u16>, FieldFault>
     requires { ⌜ length (now field) ≡ 5 ⌝ }
     ensures { λ r. ⌜ EntryTold highest above (now (field .entry)) r ⌝ }
 {

@@ -9,10 +9,11 @@ ghost use Rattle.page.specs.Readers.{LineTold, ListTold, at-column};
 ghost use Rattle.page.specs.Rules.{entry-fields, fields as fields-of};
 use crate::field::FieldFault;
 use crate::field::class_in;
+use crate::field::count_in;
 use crate::field::entry_in;
 use crate::field::highest_named;
 use crate::field::newline_in;
-use crate::field::number_in;
+use crate::field::running_in;
 use crate::layout::COUNTS_END;
 use crate::layout::INPUTS_COLUMN;
 use crate::layout::LETTER_COLUMN;
@@ -20,7 +21,6 @@ use crate::layout::LIST;
 use crate::layout::LIST_FIELDS;
 use crate::layout::MATERIAL_END;
 use crate::layout::MATERIALS_COLUMN;
-use crate::layout::MOST;
 use crate::layout::NUMBER;
 use crate::layout::NUMBER_COLUMN;
 use crate::layout::OUTPUTS_COLUMN;
@@ -50,9 +50,9 @@ pub(crate) fn counts_line(line: &[u8]) -> Result<(u16, u16), LineFault>
     ensures counted { λ r. ⌜ made r (λ c. Counts (now (line .entry)) (c .0) (c .1)) ⌝ }
 {
     let (first, rest) = line.split_at(NUMBER);
-    let materials = at_column(MATERIALS_COLUMN, number_in(first, 1, MOST))?;
+    let materials = at_column(MATERIALS_COLUMN, count_in(first))?;
     let (second, rest) = rest.split_at(NUMBER);
-    let units = at_column(UNITS_COLUMN, number_in(second, 1, MOST))?;
+    let units = at_column(UNITS_COLUMN, count_in(second))?;
     at_column(COUNTS_END, newline_in(rest[0]))?;
     Ok((materials, units))
 }
@@ -69,8 +69,16 @@ pub(crate) fn material_line(line: &[u8], number: u16) -> Result<(), LineFault>
     };
     at_column(LETTER_COLUMN, class_in(*letter))?;
     let (shown, rest) = rest.split_at(NUMBER);
-    at_column(NUMBER_COLUMN, number_in(shown, number, number))?;
+    at_column(NUMBER_COLUMN, running_in(shown, number))?;
     at_column(MATERIAL_END, newline_in(rest[0]))
+}
+
+// The column of a field with so many columns of its list before it, where the list begins at the column `first`.
+fn field_column(first: u16, before: usize) -> u16
+    requires { ⌜ first + before < 2 ^ 16 ⌝ }
+    ensures { λ r. ⌜ r ≡ first + before ⌝ }
+{
+    first + before as u16
 }
 
 // Reads a list's eight fields, the first of which begins at the column `first`.
@@ -83,7 +91,8 @@ fn list_in(list: &[u8], highest: u16, first: u16) -> Result<(), LineFault>
     for i in 0..LIST_FIELDS {
         let place = NUMBER * i;
         let field = &list[place..place + NUMBER];
-        above = at_column(first + place as u16, entry_in(field, highest, above))?;
+        let column = field_column(first, place);
+        above = at_column(column, entry_in(field, highest, above))?;
     }
     Ok(())
 }
@@ -100,7 +109,7 @@ pub(crate) fn unit_line(line: &[u8], number: u16, materials: u16) -> Result<(), 
     };
     let highest = at_column(LETTER_COLUMN, highest_named(*letter, materials))?;
     let (running, rest) = rest.split_at(NUMBER);
-    at_column(NUMBER_COLUMN, number_in(running, number, number))?;
+    at_column(NUMBER_COLUMN, running_in(running, number))?;
     let (inputs, rest) = rest.split_at(LIST);
     list_in(inputs, highest, INPUTS_COLUMN)?;
     let (outputs, rest) = rest.split_at(LIST);

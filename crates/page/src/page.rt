@@ -87,6 +87,18 @@ fn check_units(bytes: &[u8], materials: u16, units: u16) -> Result<(), PageFault
     Ok(())
 }
 
+// The fault of bytes that go on after the last line of a page with these counts.
+fn bytes_after(materials: u16, units: u16) -> PageFault
+    requires { ⌜ materials ≤ 512 ⌝ }
+    requires { ⌜ units ≤ 512 ⌝ }
+    ensures { λ r. ⌜ r ≡ record { line = materials + units + 2; column = 0 } ⌝ }
+{
+    PageFault {
+        line: materials + units + 2,
+        column: 0,
+    }
+}
+
 // The numbers of materials and of units of the page that the bytes are, or the first fault.
 pub fn check(bytes: &[u8]) -> Result<(u16, u16), PageFault>
     ensures told { λ r. ⌜ Checked (now (bytes .entry)) r ⌝ }
@@ -99,10 +111,7 @@ pub fn check(bytes: &[u8]) -> Result<(u16, u16), PageFault>
     check_materials(bytes, materials)?;
     check_units(bytes, materials, units)?;
     if bytes.len() > page_length(materials, units) {
-        return Err(PageFault {
-            line: materials + units + 2,
-            column: 0,
-        });
+        return Err(bytes_after(materials, units));
     }
     Ok((materials, units))
 }

@@ -27,8 +27,8 @@ returns-in-Break-at-column c =
     let first = getD line 0 0 ∷ [] in
     let shown = c .split-at .result .0 .now in
     let r = kept-value (FieldTold (letter state) first) 1 (c .highest-named .result) (c .in-Continue-highest .highest) (c .in-Continue-highest .ensures tt) (c .highest-named .ensures .told) in
-    field-exit (NumberTold k k shown) _ line 2 (c .number-in .result) (c .in-Break-at-column .field-0 .0) (c .from-residual-in-Break-at-column .result)
-    (c .in-Break-at-column .ensures tt) (c .number-in .ensures) (c .from-residual-in-Break-at-column .ensures .1)
+    field-exit (NumberTold k k shown) _ line 2 (c .running-in .result) (c .in-Break-at-column .field-0 .0) (c .from-residual-in-Break-at-column .result)
+    (c .in-Break-at-column .ensures tt) (c .running-in .ensures) (c .from-residual-in-Break-at-column .ensures .1)
     (λ f n. number-wrong (c .args .materials) k (letter-rest line (omega (arith, c .pre))) r (record { front = c .split-at .ensures .front; back = c .split-at .ensures .back }) n)
 
 pub returns-in-Break-list-in : need.returns-in-Break-list-in
@@ -41,7 +41,7 @@ returns-in-Break-list-in c =
     let highest = c .in-Continue-highest .highest in
     let r = kept-value (FieldTold (letter state) first) 1 (c .highest-named .result) highest (c .in-Continue-highest .ensures tt) (c .highest-named .ensures .told) in
     let named = kept-value (λ x. made x (λ h. h ≡ cond (eqb (getD line 0 0) 45) 0 l)) 1 (c .highest-named .result) highest (c .in-Continue-highest .ensures tt) (c .highest-named .ensures .highest) in
-    let s = number-right k k shown (c .in-Continue-at-column .field-0) (kept-value (NumberTold k k shown) 2 (c .number-in .result) (c .in-Continue-at-column .field-0) (c .in-Continue-at-column .ensures tt) (c .number-in .ensures)) in
+    let s = number-right k k shown (c .in-Continue-at-column .field-0) (kept-value (NumberTold k k shown) 2 (c .running-in .result) (c .in-Continue-at-column .field-0) (c .in-Continue-at-column .ensures tt) (c .running-in .ensures)) in
     at-exit (LineTold _ line) (c .from-residual-in-Break-list-in .result) (c .in-Break-list-in .field-0 .0) (c .from-residual-in-Break-list-in .ensures .1)
     (whole-line _ line _
     (inputs-wrong l k (letter-rest line (omega (arith, c .pre))) r (record { front = c .split-at .ensures .front; back = c .split-at .ensures .back }) s highest named
@@ -57,7 +57,7 @@ returns-in-Break-list-in-2 c =
     let highest = c .in-Continue-highest .highest in
     let r = kept-value (FieldTold (letter state) first) 1 (c .highest-named .result) highest (c .in-Continue-highest .ensures tt) (c .highest-named .ensures .told) in
     let named = kept-value (λ x. made x (λ h. h ≡ cond (eqb (getD line 0 0) 45) 0 l)) 1 (c .highest-named .result) highest (c .in-Continue-highest .ensures tt) (c .highest-named .ensures .highest) in
-    let s = number-right k k shown (c .in-Continue-at-column .field-0) (kept-value (NumberTold k k shown) 2 (c .number-in .result) (c .in-Continue-at-column .field-0) (c .in-Continue-at-column .ensures tt) (c .number-in .ensures)) in
+    let s = number-right k k shown (c .in-Continue-at-column .field-0) (kept-value (NumberTold k k shown) 2 (c .running-in .result) (c .in-Continue-at-column .field-0) (c .in-Continue-at-column .ensures tt) (c .running-in .ensures)) in
     at-exit (LineTold _ line) (c .from-residual-in-Break-list-in-2 .result) (c .in-Break-list-in-2 .field-0 .0) (c .from-residual-in-Break-list-in-2 .ensures .1)
     (whole-line _ line _
     (outputs-wrong l k (letter-rest line (omega (arith, c .pre))) r (record { front = c .split-at .ensures .front; back = c .split-at .ensures .back }) s highest named
@@ -75,7 +75,7 @@ returns c =
     let highest = c .in-Continue-highest .highest in
     let r = kept-value (FieldTold (letter state) first) 1 (c .highest-named .result) highest (c .in-Continue-highest .ensures tt) (c .highest-named .ensures .told) in
     let named = kept-value (λ x. made x (λ h. h ≡ cond (eqb (getD line 0 0) 45) 0 l)) 1 (c .highest-named .result) highest (c .in-Continue-highest .ensures tt) (c .highest-named .ensures .highest) in
-    let s = number-right k k shown (c .in-Continue-at-column .field-0) (kept-value (NumberTold k k shown) 2 (c .number-in .result) (c .in-Continue-at-column .field-0) (c .in-Continue-at-column .ensures tt) (c .number-in .ensures)) in
+    let s = number-right k k shown (c .in-Continue-at-column .field-0) (kept-value (NumberTold k k shown) 2 (c .running-in .result) (c .in-Continue-at-column .field-0) (c .in-Continue-at-column .ensures tt) (c .running-in .ensures)) in
     let a = letter-rest line (omega (arith, c .pre)) in
     let b : Split 5 _ shown _ = record { front = c .split-at .ensures .front; back = c .split-at .ensures .back } in
     let d : Split 40 _ _ _ = record { front = c .split-at-2 .ensures .front; back = c .split-at-2 .ensures .back } in

@@ -1,5 +1,6 @@
 -- What the check tells at each of its returns; the other promises follow from that.
-use Prim.Native.Nat.{ℕ, _+_}
+use mathlib.Core.Path.{sym, subst}
+use Prim.Native.Nat.{ℕ}
 use native.Mathlib.Omega.{arith}
 use Rattle.std.specs.declared.result.Result.{Result}
 use Rattle.std.specs.declared.result.Result.the-variants.{Ok, Err}
@@ -58,8 +59,9 @@ returns-then-bytes-page-length c =
     let l = c .in-Continue-materials .materials in
     let n = c .in-Continue-materials .units in
     let o = opened bytes (c .in-Continue-first .first .now) (c .counts-line .result) l n (c .in-Continue-first .ensures tt) (c .counts-line .ensures .told) (c .counts-line .ensures .counted) (c .in-Continue-materials .ensures tt) in
-    let r : Result (ℕ × ℕ) PageFault = Err (record { line = l + n + 2; column = 0 }) in
-    let told = refused-after bytes l n o (c .in-Continue-check-materials .ensures tt) (c .in-Continue-check-units .ensures tt) (omega (arith, c .page-length .ensures, c .if-bytes-page-length .taken)) in
+    let r : Result (ℕ × ℕ) PageFault = Err (c .bytes-after .result) in
+    let after = refused-after bytes l n o (c .in-Continue-check-materials .ensures tt) (c .in-Continue-check-units .ensures tt) (omega (arith, c .page-length .ensures, c .if-bytes-page-length .taken)) in
+    let told = subst (λ fault. Checked bytes (Err fault)) (sym (c .bytes-after .ensures)) after in
     record { told = told; only = λ s t. one-answer bytes r s told t; faultless-is-page = faultless-is-page bytes r told; first-bytes-decide = first-bytes bytes r told }
 
 pub returns : need.returns
