@@ -1,3 +1,8 @@
 pub mod Meaning
 pub mod Refusals
 pub mod Declined
+pub mod Asked
+pub mod Edits
+pub mod Laws
+pub mod Climbing
+pub mod Layers

@@ -1,6 +1,14 @@
-// What a book means and why a call is declined.
+// What a book means, what it can be asked and how it is edited, and why a call is declined.
 ghost use mathlib.Core.Path.{_≡_};
 ghost use Rattle.book.specs.Refusals.{told};
+
+mod books;
+
+pub use books::Book;
+pub use books::EditableBook;
+pub use books::LentBook;
+pub use books::LentEditableBook;
+pub use books::Lists;
 
 // Where the first fault of a page is. Lines and columns count from 1; column 0 is a line that the end of the bytes
 // cuts short, or bytes after the last line.
