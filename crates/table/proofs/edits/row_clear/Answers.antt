@@ -1,0 +1,29 @@
+-- Not withheld, nothing is written; else the empty row.
+use mathlib.Core.Path.{ap}
+use mathlib.Core.List.{[]}
+use lib.ListN.{set}
+use Rattle.std.specs.declared.result.Result.the-variants.{Ok, Err}
+use Rattle.book.specs.declared.Refusal.the-variants.{NotWithheld}
+use Rattle.book.specs.Meaning.{free}
+use Rattle.book.specs.Edits.{clear-edit}
+use Rattle.table.specs.Rows.{row-of}
+use Rattle.table.proofs.Changes.{said-of, withheld-placed, not-withheld, clear-refused, clear-accepted}
+use Rattle.table.proofs.edits.row_clear.Needs as need
+
+pub returns-in-rest : need.returns-in-rest
+returns-in-rest c l =
+    let rows = c .args .rows .now in
+    let k = c .args .unit in
+    let found = c .in-rest .ensures tt in
+    said-of l (clear-edit k) rows (Err NotWithheld) (found .same)
+    (clear-refused l rows k (λ ms. not-withheld ms l rows k (found .answer ms l)))
+
+pub returns : need.returns
+returns c l =
+    let rows = c .args .rows .now in
+    let k = c .args .unit in
+    let i = c .in-Some .place in
+    let found = c .in-Some .ensures tt in
+    let w = withheld-placed [] l rows k i (found .answer [] l) in
+    said-of l (clear-edit k) rows (Ok tt) (ap (λ read. set read i (row-of free)) (found .same))
+    (clear-accepted l rows k i (w .0) (w .1))
