@@ -1,0 +1,17 @@
+pub mod Shown
+pub mod Climbs
+pub mod Read
+pub mod Parts
+pub mod Entries
+pub mod Answering
+pub mod Overwritten
+pub mod Room
+pub mod Written
+pub mod Paged
+pub mod Lasting
+pub mod Lettered
+pub mod Filling
+pub mod Found
+pub mod Refitted
+pub mod Decided
+pub mod Owed
