@@ -1,0 +1,5 @@
+pub mod Putting
+pub mod Answered
+pub mod Rising
+pub mod Fields
+pub mod Numbering

@@ -1,0 +1,3 @@
+pub mod WrittenOut
+pub mod Put
+pub mod Told
