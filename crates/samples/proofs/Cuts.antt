@@ -9,14 +9,14 @@ use Rattle.std.proofs.shelf.Lists.{take-all, drop-all, drop-drop, length-drop, 
 use Rattle.std.proofs.shelf.Tests.{cases-lt}
 use Rattle.samples.specs.Patched.{patched-with}
 
-pub take-within : (n : ℕ) (xs : List ℕ) → take (min n (length xs)) xs ≡ take n xs
+pub take-within : {X : Type 0} (n : ℕ) (xs : List X) → take (min n (length xs)) xs ≡ take n xs
 take-within n xs = elim (cases-lt (length xs) n) [
   | inl h ↦ let e : min n (length xs) ≡ length xs = omega arith in
       ap (λ k. take k xs) e ∙ take-all (length xs) xs (omega arith) ∙ sym (take-all n xs (omega arith))
   | inr h ↦ let e : min n (length xs) ≡ n = omega arith in ap (λ k. take k xs) e
 ]
 
-pub drop-within : (n : ℕ) (xs : List ℕ) → drop (min n (length xs)) xs ≡ drop n xs
+pub drop-within : {X : Type 0} (n : ℕ) (xs : List X) → drop (min n (length xs)) xs ≡ drop n xs
 drop-within n xs = elim (cases-lt (length xs) n) [
   | inl h ↦ let e : min n (length xs) ≡ length xs = omega arith in
       ap (λ k. drop k xs) e ∙ drop-all (length xs) xs (omega arith) ∙ sym (drop-all n xs (omega arith))

@@ -16,11 +16,15 @@ pub const SMALL_FARM: &[u8] =
 pub const FULL_LINE: &[u8] =
     b"    8    1\nP    1\nR    2\n-    3\n-    4\n-    5\n-    6\n-    7\n-    8\nS    1    1    2    3    4    5    6    7    8    1    2    3    4    5    6    7    8\n";
 
-// The first bytes of a page, or all where it has no more.
-pub fn front(page: &[u8], count: usize) -> &[u8]
-    ensures { λ r. ⌜ now r ≡ take count (now (page .entry)) ⌝ }
+// A page of six plain materials and five free numbers.
+pub const BLANK_FARM: &[u8] =
+    b"    6    5\n-    1\n-    2\n-    3\n-    4\n-    5\n-    6\n-    1                                                                                \n-    2                                                                                \n-    3                                                                                \n-    4                                                                                \n-    5                                                                                \n";
+
+// The first so many items, or all where there are no more.
+pub fn front<T>(items: &[T], count: usize) -> &[T]
+    ensures { λ r. ⌜ now r ≡ take count (now (items .entry)) ⌝ }
 {
-    let (front, _) = page.split_at(count.min(page.len()));
+    let (front, _) = items.split_at(count.min(items.len()));
     front
 }
 

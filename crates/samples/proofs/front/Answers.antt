@@ -4,5 +4,5 @@ use Rattle.samples.proofs.Cuts.{take-within}
 use Rattle.samples.proofs.front.Needs as need
 
 pub returns : need.returns
-returns c =
-    c .split-at .ensures .front ∙ ap (λ k. take k (c .args .page .now)) (c .min .ensures) ∙ take-within (c .args .count) (c .args .page .now)
+returns g c =
+    c .split-at .ensures .front ∙ ap (λ k. take k (c .args .items .now)) (c .min .ensures) ∙ take-within (c .args .count) (c .args .items .now)
