@@ -1,60 +1,74 @@
-// A tour of the planner: takes pages through the check and says in words what came of each.
-use book::PageFault;
+// A tour of the planner: pages through the check, and one farm as a book on a page and in a table.
+mod edits;
+mod pages;
+
 use book::Refusal;
-use page::check;
+use edits::edit_and_tell;
+use edits::make_farm;
+use pagebook::PageBook;
+use pagebook::PageBookBook;
+use pagebook::PageBookEditable;
+use pages::check_pages;
+use roundtrip::copy_page;
+use roundtrip::save;
 use samples::SMALL_FARM;
-use samples::patched;
 use std::error::AnyError;
+use table::MaterialRow;
+use table::TableBook;
+use table::TableBookBook;
+use table::TableBookEditable;
+use table::UnitRow;
 
-// The page through the check, and what came of it.
-fn tell(rt: &LibcRuntime, name: &str, page: &[u8]) -> Result<(), AnyError> {
-    let length = page.len();
-    println!(rt, "{name} ({length} bytes)")?;
-    match check(page) {
-        Ok((materials, units)) => println!(
-            rt,
-            "  accepted: a page of {materials} materials and {units} units"
-        )?,
-        Err(fault) => tell_fault(rt, fault)?,
+// What came of writing a page: its length, or the refusal.
+fn tell_written(rt: &LibcRuntime, answer: Result<usize, Refusal>) -> Result<(), AnyError> {
+    match answer {
+        Ok(length) => println!(rt, "  written: {length} bytes")?,
+        Err(refusal) => {
+            let number = refusal.number();
+            println!(rt, "  refused with {number}")?;
+        }
     }
     Ok(())
 }
 
-// Where a page is at fault.
-fn tell_fault(rt: &LibcRuntime, fault: PageFault) -> Result<(), AnyError> {
-    let number = Refusal::BadPage(fault).number();
-    let PageFault { line, column } = fault;
-    if column == 0 {
-        println!(
-            rt,
-            "  refused with {number}: line {line} is cut short, or should not be there"
-        )?;
-    } else {
-        println!(
-            rt,
-            "  refused with {number}: line {line}, the field at column {column}"
-        )?;
-    }
-    Ok(())
+// The small farm on its page: edited, and written out.
+fn tour_page(rt: &LibcRuntime, copy: &mut [u8]) -> Result<(), AnyError> {
+    let mut page = SMALL_FARM.to_vec(rt.alloc())?;
+    println!(rt, "The small farm, copied through a book")?;
+    tell_written(rt, copy_page(page.as_mut_slice(), copy))?;
+    println!(rt, "The small farm on its page, edited")?;
+    let mut book = PageBook::open(page.as_mut_slice());
+    edit_and_tell(rt, &mut book)?;
+    tell_written(rt, save(&mut book, copy))
 }
 
-// The small farm's page with other bytes from `at` on, through the check.
-fn tell_patched(rt: &LibcRuntime, name: &str, at: usize, patch: &[u8]) -> Result<(), AnyError> {
-    let page = patched(rt.alloc(), SMALL_FARM, at, patch)?;
-    tell(rt, name, page.as_slice())
+// The small farm in a table: made, edited, and written out.
+fn tour_table(rt: &LibcRuntime, copy: &mut [u8]) -> Result<(), AnyError> {
+    let mut materials = [MaterialRow::PLAIN; 4];
+    let mut units = [UnitRow::FREE; 2];
+    let mut book = TableBook::open(&mut materials, &mut units);
+    println!(rt, "The small farm, made in a table")?;
+    make_farm(rt, &mut book)?;
+    println!(rt, "The small farm in the table, edited")?;
+    edit_and_tell(rt, &mut book)?;
+    tell_written(rt, save(&mut book, copy))
 }
 
 fn main(rt: LibcRuntime) -> Result<(), AnyError> {
-    tell(&rt, "The small farm", SMALL_FARM)?;
-    tell(&rt, "No page at all", b"")?;
-    tell_patched(&rt, "The small farm, material 2 numbered 02", 19, b"   02")?;
-    tell_patched(&rt, "The small farm, unit 1 withheld", 39, b"W")?;
-    tell_patched(
-        &rt,
-        "The small farm, unit 1 making 3 and then 1",
-        85,
-        b"    3    1",
-    )?;
-    tell_patched(&rt, "The small farm, one unit more promised", 5, b"    3")?;
-    tell_patched(&rt, "The small farm, with a byte after its end", 213, b"\n")
+    check_pages(&rt)?;
+    let mut from_page = [0u8; 300];
+    let mut from_table = [0u8; 300];
+    tour_page(&rt, &mut from_page)?;
+    tour_table(&rt, &mut from_table)?;
+    let same = if from_page == from_table {
+        "the same"
+    } else {
+        "not the same"
+    };
+    println!(rt, "What the page book and the table book wrote is {same}")?;
+    println!(rt, "The same table into memory that is too short")?;
+    let mut materials = [MaterialRow::PLAIN; 4];
+    let mut units = [UnitRow::FREE; 2];
+    let mut book = TableBook::open(&mut materials, &mut units);
+    tell_written(&rt, save(&mut book, &mut [0u8; 212]))
 }
