@@ -1,5 +1,5 @@
-// The edits of a page book, over its bytes. Each tests all it has to test before it writes, so that a refused edit writes
-// nothing.
+// The edits of a page book, over its bytes. Each makes sure that nothing refuses it before it writes, so that a refused
+// edit writes nothing.
 ghost use mathlib.Core.Path.{_≡_};
 ghost use mathlib.Core.Bool.{false};
 ghost use Prim.Native.Nat.{_+_, _≤_};
