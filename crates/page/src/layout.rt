@@ -1,7 +1,6 @@
-// The layout of a page, as the code has it: how wide each field is, how long each line is, where each field and each
-// line begins.
+// The layout of a page, said once for all code that reads or writes one: how wide each field is, how long each line is,
+// where each field and each line begins.
 ghost use mathlib.Core.Path.{_≡_};
-ghost use Prim.Native.Nat.{_≤_};
 ghost use Rattle.page.specs.Layout.{line-start, material, page-length, unit};
 
 // How many columns a letter, a number and a newline take.
@@ -16,12 +15,17 @@ pub const LIST_FIELDS: usize = 8;
 
 pub const LIST: usize = LIST_FIELDS * NUMBER;
 
+// How many columns stand before the two lists of a unit's line.
+pub const INPUTS: usize = LETTER + NUMBER;
+
+pub const OUTPUTS: usize = INPUTS + LIST;
+
 // How many bytes a line has, the newline too.
 pub const COUNTS_LINE: usize = NUMBER + NUMBER + NEWLINE;
 
 pub const MATERIAL_LINE: usize = LETTER + NUMBER + NEWLINE;
 
-pub const UNIT_LINE: usize = LETTER + NUMBER + LIST + LIST + NEWLINE;
+pub const UNIT_LINE: usize = OUTPUTS + LIST + NEWLINE;
 
 // The columns, counted from 1, at which the fields of a line begin. Line 1 has the two counts.
 pub const MATERIALS_COLUMN: u16 = 1;
@@ -47,23 +51,21 @@ pub const UNIT_END: u16 = OUTPUTS_COLUMN + LIST as u16;
 pub const MOST: u16 = 512;
 
 // Where the line of a material begins.
-pub(crate) fn material_start(number: u16) -> usize
-    requires { ⌜ 1 ≤ number ⌝ }
+pub fn material_start(number: u16) -> usize
     ensures { λ r. ⌜ r ≡ line-start 0 (material number) ⌝ }
 {
-    COUNTS_LINE + MATERIAL_LINE * (number as usize - 1)
+    COUNTS_LINE + MATERIAL_LINE * number.saturating_sub(1) as usize
 }
 
 // Where the line of a unit number begins, on a page with this many materials.
-pub(crate) fn unit_start(materials: u16, number: u16) -> usize
-    requires { ⌜ 1 ≤ number ⌝ }
+pub fn unit_start(materials: u16, number: u16) -> usize
     ensures { λ r. ⌜ r ≡ line-start materials (unit number) ⌝ }
 {
-    COUNTS_LINE + MATERIAL_LINE * materials as usize + UNIT_LINE * (number as usize - 1)
+    COUNTS_LINE + MATERIAL_LINE * materials as usize + UNIT_LINE * number.saturating_sub(1) as usize
 }
 
 // How many bytes a page with these counts has.
-pub(crate) fn page_length(materials: u16, units: u16) -> usize
+pub fn page_length(materials: u16, units: u16) -> usize
     ensures { λ r. ⌜ r ≡ page-length materials units ⌝ }
 {
     COUNTS_LINE + MATERIAL_LINE * materials as usize + UNIT_LINE * units as usize

@@ -1,6 +1,6 @@
 // The page: its format, and the check of one.
 mod field;
-mod layout;
+pub mod layout;
 mod line;
 mod page;
 

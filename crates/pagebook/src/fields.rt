@@ -11,12 +11,12 @@ ghost use Rattle.page.specs.Layout.{number-width, list-fields, list-width, most
 ghost use Rattle.page.specs.Layout.{unit as line-of-unit};
 ghost use Rattle.page.specs.Format.{class-letter, list-bytes};
 ghost use Rattle.pagebook.specs.Writes.{over, refitted};
-use crate::layout::INPUTS;
-use crate::layout::LIST;
-use crate::layout::LIST_FIELDS;
-use crate::layout::NUMBER;
-use crate::layout::OUTPUTS;
 use book::Lists;
+use page::layout::INPUTS;
+use page::layout::LIST;
+use page::layout::LIST_FIELDS;
+use page::layout::NUMBER;
+use page::layout::OUTPUTS;
 
 // The letter of a material's line.
 pub(crate) fn class_letter(wanted: bool, bought: bool) -> u8

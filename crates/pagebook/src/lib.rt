@@ -11,7 +11,6 @@ ghost use Rattle.pagebook.specs.PageLaws.{page-laws};
 
 mod edits;
 mod fields;
-mod layout;
 mod questions;
 
 use book::Book;
@@ -52,6 +51,7 @@ impl<'a> PageBook<'a> {
         ensures bytes { λ r. ⌜ now (r .bytes) ≡ now (bytes .entry) ⌝ }
         ensures there { λ r. ⌜ name (r .bytes) ≡ name (bytes .entry) ⌝ }
         ensures means { λ r. ⌜ Opened (now (bytes .entry)) (page-meaning r) ⌝ }
+        ensures shut { λ r. ⌜ ((line column : ℕ) → Refused (now (bytes .entry)) line column → r .«open» ≡ false) ⌝ }
     {
         let open = is_page(bytes);
         PageBook { bytes, open }

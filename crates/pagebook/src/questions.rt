@@ -16,16 +16,16 @@ ghost use Rattle.page.specs.Layout.{material as line-of-material, unit as line-
 ghost use Rattle.pagebook.specs.Reading.{number-shown, materials-on, units-on, material-in};
 ghost use Rattle.pagebook.specs.PageBooks.{meaning-of};
 ghost use Rattle.pagebook.specs.Places.{line-of, lists-in, list-from, side-of, side-column};
-use crate::layout::COUNTS_LINE;
-use crate::layout::INPUTS;
-use crate::layout::LIST_FIELDS;
-use crate::layout::MOST;
-use crate::layout::NUMBER;
-use crate::layout::OUTPUTS;
-use crate::layout::material_start;
-use crate::layout::page_length;
-use crate::layout::unit_start;
 use columns::Content;
+use page::layout::COUNTS_LINE;
+use page::layout::INPUTS;
+use page::layout::LIST_FIELDS;
+use page::layout::MOST;
+use page::layout::NUMBER;
+use page::layout::OUTPUTS;
+use page::layout::material_start;
+use page::layout::page_length;
+use page::layout::unit_start;
 
 // The letter of a standing unit.
 pub const STANDING: u8 = b'S';

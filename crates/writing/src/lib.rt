@@ -10,12 +10,12 @@ ghost use Rattle.writing.specs.WrittenOut.{as-written, WrittenOut};
 ghost use Rattle.writing.specs.Put.{Put};
 use book::Book;
 use book::Refusal;
-use layout::COUNTS_LENGTH;
-use layout::MATERIAL_LENGTH;
-use layout::MOST;
-use layout::UNIT_LENGTH;
+use page::layout::COUNTS_LINE;
+use page::layout::MATERIAL_LINE;
+use page::layout::MOST;
+use page::layout::UNIT_LINE;
+use page::layout::page_length;
 
-mod layout;
 mod lines;
 mod order;
 mod side;
@@ -34,7 +34,7 @@ pub fn write_out<B: Book>(book: &mut B, memory: &mut [u8]) -> Result<usize, Refu
     if !order::lists_rise(book, units) {
         return Err(Refusal::BadList);
     }
-    let size = size_of_page(materials, units);
+    let size = page_length(materials, units);
     if memory.len() < size {
         return Err(Refusal::MemoryTooShort);
     }
@@ -49,13 +49,6 @@ fn on_page(count: u16) -> bool
     1 <= count && count <= MOST
 }
 
-// How many bytes a page with these counts has.
-fn size_of_page(materials: u16, units: u16) -> usize
-    ensures { λ r. ⌜ r ≡ page-length materials units ⌝ }
-{
-    COUNTS_LENGTH + MATERIAL_LENGTH * usize::from(materials) + UNIT_LENGTH * usize::from(units)
-}
-
 // Puts the whole page of a book with these counts at the start of the memory.
 fn put_page<B: Book>(book: &mut B, memory: &mut [u8], materials: u16, units: u16)
     requires materials { ⌜ materials ≡ material-count (B·Book .meaning (now book)) ⌝ }
@@ -65,8 +58,8 @@ fn put_page<B: Book>(book: &mut B, memory: &mut [u8], materials: u16, units: u16
     ensures same { λ _. ⌜ now (book .exit) ≡ now (book .entry) ⌝ }
 {
     lines::put_counts(memory, 0, materials, units);
-    put_materials(book, memory, COUNTS_LENGTH, materials);
-    let units_at = COUNTS_LENGTH + MATERIAL_LENGTH * usize::from(materials);
+    put_materials(book, memory, COUNTS_LINE, materials);
+    let units_at = COUNTS_LINE + MATERIAL_LINE * usize::from(materials);
     put_units(book, memory, units_at, units);
 }
 
@@ -78,7 +71,7 @@ fn put_materials<B: Book>(book: &mut B, memory: &mut [u8], at: usize, materials:
     ensures same { λ _. ⌜ now (book .exit) ≡ now (book .entry) ⌝ }
 {
     for done in 0..materials {
-        let line_at = at + MATERIAL_LENGTH * usize::from(done);
+        let line_at = at + MATERIAL_LINE * usize::from(done);
         lines::put_material(book, memory, line_at, done + 1);
     }
 }
@@ -91,7 +84,7 @@ fn put_units<B: Book>(book: &mut B, memory: &mut [u8], at: usize, units: u16)
     ensures same { λ _. ⌜ now (book .exit) ≡ now (book .entry) ⌝ }
 {
     for done in 0..units {
-        let line_at = at + UNIT_LENGTH * usize::from(done);
+        let line_at = at + UNIT_LINE * usize::from(done);
         lines::put_unit(book, memory, line_at, done + 1);
     }
 }

@@ -7,12 +7,12 @@ ghost use Rattle.columns.specs.Columns.{blanks, column};
 ghost use Rattle.page.specs.Format.{class-letter, state-letter, list-bytes, counts-line, material-line, unit-line};
 ghost use Rattle.writing.specs.Put.{Put};
 ghost use Rattle.writing.specs.Told.{told-material, told-state, told-list, field-bytes};
-use crate::layout::LETTER_WIDTH;
-use crate::layout::LIST_FIELDS;
-use crate::layout::LIST_WIDTH;
-use crate::layout::NUMBER_WIDTH;
 use crate::side::Side;
 use book::Book;
+use page::layout::LETTER;
+use page::layout::LIST;
+use page::layout::LIST_FIELDS;
+use page::layout::NUMBER;
 
 // Puts the line of the counts.
 pub(crate) fn put_counts(memory: &mut [u8], at: usize, materials: u16, units: u16)
@@ -20,8 +20,8 @@ pub(crate) fn put_counts(memory: &mut [u8], at: usize, materials: u16, units: u1
     ensures { λ _. ⌜ Put at 11 (counts-line materials units) (now (memory .entry)) (now (memory .exit)) ⌝ }
 {
     put_number(memory, at, materials);
-    put_number(memory, at + NUMBER_WIDTH, units);
-    put_byte(memory, at + NUMBER_WIDTH + NUMBER_WIDTH, b'\n');
+    put_number(memory, at + NUMBER, units);
+    put_byte(memory, at + NUMBER + NUMBER, b'\n');
 }
 
 // Puts the line of a material.
@@ -32,9 +32,9 @@ pub(crate) fn put_material<B: Book>(book: &mut B, memory: &mut [u8], at: usize, 
 {
     let letter = letter_of_class(book, material);
     put_byte(memory, at, letter);
-    let number_at = at + LETTER_WIDTH;
+    let number_at = at + LETTER;
     put_number(memory, number_at, material);
-    put_byte(memory, number_at + NUMBER_WIDTH, b'\n');
+    put_byte(memory, number_at + NUMBER, b'\n');
 }
 
 // Puts the line of a unit number.
@@ -45,13 +45,13 @@ pub(crate) fn put_unit<B: Book>(book: &mut B, memory: &mut [u8], at: usize, unit
 {
     let letter = letter_of_state(book, unit);
     put_byte(memory, at, letter);
-    let number_at = at + LETTER_WIDTH;
+    let number_at = at + LETTER;
     put_number(memory, number_at, unit);
-    let inputs_at = number_at + NUMBER_WIDTH;
+    let inputs_at = number_at + NUMBER;
     put_list(book, memory, inputs_at, unit, Side::Inputs);
-    let outputs_at = inputs_at + LIST_WIDTH;
+    let outputs_at = inputs_at + LIST;
     put_list(book, memory, outputs_at, unit, Side::Outputs);
-    put_byte(memory, outputs_at + LIST_WIDTH, b'\n');
+    put_byte(memory, outputs_at + LIST, b'\n');
 }
 
 // The letter that says whether a material is wanted and whether it is bought.
@@ -87,9 +87,9 @@ fn put_list<B: Book>(book: &mut B, memory: &mut [u8], at: usize, unit: u16, side
     ensures put { λ _. ⌜ Put at 40 (list-bytes (told-list side unit (B·Book .meaning (now (book .entry))))) (now (memory .entry)) (now (memory .exit)) ⌝ }
     ensures same { λ _. ⌜ now (book .exit) ≡ now (book .entry) ⌝ }
 {
-    for done in 0..LIST_FIELDS {
+    for done in 0..LIST_FIELDS as u16 {
         let entry = side.entry(book, unit, done + 1);
-        let field_at = at + NUMBER_WIDTH * usize::from(done);
+        let field_at = at + NUMBER * usize::from(done);
         put_field(memory, field_at, entry);
     }
 }
@@ -110,9 +110,9 @@ fn put_number(memory: &mut [u8], at: usize, number: u16)
     requires { ⌜ at + 5 ≤ length (now memory) ⌝ }
     ensures { λ _. ⌜ Put at 5 (column 5 number) (now (memory .entry)) (now (memory .exit)) ⌝ }
 {
-    let field = &mut memory[at..at + NUMBER_WIDTH];
+    let field = &mut memory[at..at + NUMBER];
     // It fits: a u16 has at most five digits.
-    let _ = columns::write(field, NUMBER_WIDTH, u32::from(number));
+    let _ = columns::write(field, NUMBER, u32::from(number));
 }
 
 // Puts spaces into the columns of a number.
@@ -120,7 +120,7 @@ fn put_blank(memory: &mut [u8], at: usize)
     requires { ⌜ at + 5 ≤ length (now memory) ⌝ }
     ensures { λ _. ⌜ Put at 5 (blanks 5) (now (memory .entry)) (now (memory .exit)) ⌝ }
 {
-    memory[at..at + NUMBER_WIDTH].fill(b' ');
+    memory[at..at + NUMBER].fill(b' ');
 }
 
 // Puts one byte.

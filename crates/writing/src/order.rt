@@ -3,9 +3,9 @@ ghost use mathlib.Core.Path.{_≡_};
 ghost use Rattle.book.specs.Meaning.{unit-count};
 ghost use Rattle.writing.specs.WrittenOut.{rises, lists-rise, all-rise};
 ghost use Rattle.writing.specs.Told.{told-list, told-state};
-use crate::layout::LIST_FIELDS;
 use crate::side::Side;
 use book::Book;
+use page::layout::LIST_FIELDS;
 
 // Whether the lists of every standing unit are strictly ascending, in a book with so many unit numbers.
 pub(crate) fn lists_rise<B: Book>(book: &mut B, units: u16) -> bool
@@ -35,7 +35,7 @@ fn list_rises<B: Book>(book: &mut B, unit: u16, side: Side) -> bool
     ensures same { λ _. ⌜ now (book .exit) ≡ now (book .entry) ⌝ }
 {
     let mut last = 0;
-    for seen in 0..LIST_FIELDS {
+    for seen in 0..LIST_FIELDS as u16 {
         if let Some(number) = side.entry(book, unit, seen + 1) {
             if number <= last {
                 return false;

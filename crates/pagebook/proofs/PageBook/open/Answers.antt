@@ -19,4 +19,5 @@ returns c =
             (ap (λ o. meaning-of o bytes) (c .is-page-open .ensures .page .1 some) ∙ read .0, read .1);
         refused = λ line column fault. ap (λ o. meaning-of o bytes) (c .is-page-open .ensures .refused line column fault);
       };
+      shut = c .is-page-open .ensures .refused;
     }
