@@ -22,9 +22,13 @@ use Rattle.page.specs.Layout.{most, page-length}
 use Rattle.page.specs.Format.{page-of}
 use Rattle.page.specs.Checked.{Rising, Settled, Acceptable, PageOf}
 use Rattle.page.proofs.Pages.{page-size}
-use Rattle.pagebook.specs.PageBooks.{Opened}
+use denote.Ref.{now}
+use Rattle.pagebook.specs.declared.PageBook.{PageBook}
+use Rattle.pagebook.specs.Reading.{of-page}
+use Rattle.pagebook.specs.PageBooks.{Opened, Canonical, meaning-of, page-meaning, PageKept}
+use Rattle.page.specs.Faults.{Refused}
 use Rattle.writing.specs.WrittenOut.{settled, as-written, rises, lists-rise, all-rise, write-reasons, WrittenOut}
-use Rattle.roundtrip.specs.ThereAndBack.{NotWithheld, ReadsBack}
+use Rattle.roundtrip.specs.ThereAndBack.{NotWithheld, ReadsBack, PageHidden, all-hidden}
 
 -- the test of ascending order, both ways
 rising-from : (last : ℕ) (xs : List ℕ) → rises last xs ≡ true → Rising last xs
@@ -180,3 +184,22 @@ old-bytes m page before after (Err x) a e room told =
 pub empty-refused : (before after : List ℕ) (r : Result ℕ Refusal) → WrittenOut empty-book before after r → (r ≡ Err OutOfRange) × (after ≡ before)
 empty-refused before after (Ok size) told = let given = told .0 in let w : _≡_ {A = ℕ} 0 1 = cc in absurd (omega arith)
 empty-refused before after (Err x) told = let given : Some OutOfRange ≡ Some x = told .0 in let same : x ≡ OutOfRange = cc in (ap Err same, told .1)
+
+-- a page book that means an acceptable book, hidden or not, is open
+by-open : (o : Bool) (bytes : List ℕ) (m : Meaning) → Acceptable m → meaning-of o bytes ≡ all-hidden m → of-page bytes ≡ all-hidden m
+by-open true bytes m a e = e
+by-open false bytes m a e =
+    let some = a .some-material in
+    let none : material-count empty-book ≡ material-count (all-hidden m) = ap material-count e in
+    absurd (omega arith)
+
+-- what the bytes are when a page book is gone whose units were all hidden
+pub page-hidden : (b t : PageBook) (bytes after : List ℕ) → now (b .bytes) ≡ bytes → Opened bytes (page-meaning b) → ((line column : ℕ) → Refused bytes line column → b .«open» ≡ false) → PageKept b t → page-meaning t ≡ all-hidden (page-meaning b) → after ≡ now (t .bytes) → PageHidden bytes after
+page-hidden b t bytes after same opened shut kept hid last = record {
+  size = ap length last ∙ (kept .bytes .size ∙ ap length same);
+  page = λ m a e.
+      let canonical : Canonical (now (t .bytes)) = kept .bytes .canonical (subst Canonical (sym same) (opened .page m a e .1)) in
+      let means : page-meaning t ≡ all-hidden m = hid ∙ ap all-hidden (opened .page m a e .0) in
+      last ∙ (canonical ∙ ap page-of (by-open (t .«open») (now (t .bytes)) m a means));
+  refused = λ line column f. last ∙ (kept .shut (shut line column f) ∙ same);
+}

@@ -1,6 +1,6 @@
 -- From a page to a book and back, and from a book to a page and back.
 use mathlib.Core.Path.{_≡_}
-use mathlib.Core.List.{List, _++_}
+use mathlib.Core.List.{List, _++_, map}
 use Prim.Native.Nat.{ℕ, _≤_}
 use lib.ListN.{length, take, drop}
 use Rattle.std.specs.declared.result.Result.{Result}
@@ -9,6 +9,7 @@ use Rattle.std.specs.shelf.Lists.{All}
 use Rattle.book.specs.declared.Refusal.{Refusal}
 use Rattle.book.specs.declared.Refusal.the-variants.{OutOfRange}
 use Rattle.book.specs.Meaning.{UnitState, free, standing, withheld, Meaning}
+use Rattle.book.specs.Edits.{hidden-state}
 use Rattle.page.specs.Format.{page-of}
 use Rattle.page.specs.Faults.{Refused}
 use Rattle.page.specs.Checked.{Acceptable}
@@ -35,3 +36,13 @@ NotWithheld (withheld f) = ⊥
 pub record ReadsBack (m : Meaning) (memory : List ℕ) (size : ℕ) : Type 0 where
   pub as-written : (again : Meaning) → Opened (take size memory) again → again ≡ as-written m
   pub same-book : All NotWithheld (m .units) → (again : Meaning) → Opened (take size memory) again → again ≡ m
+
+-- the book with every standing unit withheld
+abbrev pub all-hidden : Meaning → Meaning
+all-hidden m = record { materials = m .materials; units = map hidden-state (m .units) }
+
+-- the bytes of a page on which every unit was hidden: the page of that book; bytes that the check refuses are untouched
+pub record PageHidden (before after : List ℕ) : Type 0 where
+  pub size : length after ≡ length before
+  pub page : (m : Meaning) → Acceptable m → before ≡ page-of m → after ≡ page-of (all-hidden m)
+  pub refused : (line column : ℕ) → Refused before line column → after ≡ before

@@ -2,11 +2,13 @@
 ghost use mathlib.Core.Path.{_≡_};
 ghost use Rattle.std.specs.Vec.{made};
 ghost use Rattle.writing.specs.WrittenOut.{WrittenOut};
-ghost use Rattle.roundtrip.specs.ThereAndBack.{Copied, ReadsBack};
+ghost use Rattle.roundtrip.specs.ThereAndBack.{Copied, ReadsBack, PageHidden, all-hidden};
 use book::Book;
+use book::EditableBook;
 use book::Refusal;
 use pagebook::PageBook;
 use pagebook::PageBookBook;
+use pagebook::PageBookEditable;
 use writing::write_out;
 
 // Opens the page as a book and writes that book out into the memory: an accepted page has its old bytes there.
@@ -25,4 +27,23 @@ pub fn save<B: Book>(book: &mut B, memory: &mut [u8]) -> Result<usize, Refusal>
     ensures same { λ _. ⌜ now (book .exit) ≡ now (book .entry) ⌝ }
 {
     write_out(book, memory)
+}
+
+// Withholds every unit that stands, in any book.
+pub fn hide_all<B: EditableBook>(book: &mut B)
+    ensures hidden { λ _. ⌜ B·Book .meaning (now (book .exit)) ≡ all-hidden (B·Book .meaning (now (book .entry))) ⌝ }
+    ensures held { λ _. ⌜ B·Book .kept (now (book .entry)) (now (book .exit)) ⌝ }
+{
+    for place in 0..book.units() {
+        let _ = book.hide(place + 1);
+    }
+}
+
+// Withholds every unit on a page, by code that knows nothing of pages. Whoever lent the bytes knows afterwards that they
+// are exactly the page of that book.
+pub fn hide_page(page: &mut [u8])
+    ensures { λ _. ⌜ PageHidden (now (page .entry)) (now (page .exit)) ⌝ }
+{
+    let mut book = PageBook::open(page);
+    hide_all(&mut book);
 }

@@ -9,7 +9,9 @@ use pagebook::PageBook;
 use pagebook::PageBookBook;
 use pagebook::PageBookEditable;
 use pages::check_pages;
+use pages::tell;
 use roundtrip::copy_page;
+use roundtrip::hide_page;
 use roundtrip::save;
 use samples::SMALL_FARM;
 use std::error::AnyError;
@@ -39,7 +41,9 @@ fn tour_page(rt: &LibcRuntime, copy: &mut [u8]) -> Result<(), AnyError> {
     println!(rt, "The small farm on its page, edited")?;
     let mut book = PageBook::open(page.as_mut_slice());
     edit_and_tell(rt, &mut book)?;
-    tell_written(rt, save(&mut book, copy))
+    tell_written(rt, save(&mut book, copy))?;
+    hide_page(page.as_mut_slice());
+    tell(rt, "The same page, every unit withheld", page.as_slice())
 }
 
 // The small farm in a table: made, edited, and written out.

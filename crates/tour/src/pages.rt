@@ -7,7 +7,7 @@ use samples::patched;
 use std::error::AnyError;
 
 // The page through the check, and what came of it.
-fn tell(rt: &LibcRuntime, name: &str, page: &[u8]) -> Result<(), AnyError> {
+pub(crate) fn tell(rt: &LibcRuntime, name: &str, page: &[u8]) -> Result<(), AnyError> {
     let length = page.len();
     println!(rt, "{name} ({length} bytes)")?;
     match check(page) {
