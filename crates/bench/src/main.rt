@@ -1,4 +1,6 @@
 // Draws one made-up book so many times, for counting what a draw costs: bench KIND UNITS TIMES.
+#![tactic(auto)]
+
 mod books;
 
 use anyhow::anyhow;

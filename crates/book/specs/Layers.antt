@@ -1,7 +1,7 @@
 -- What the two layers make of the meaning of the book below them: season lists and feeders.
-use Rattle.std.specs.Prelude.{ℕ, ◌+◌, Bool, true, false, cond, not, ◌&&◌, ◌||◌, List, [], ◌∷◌, ◌++◌, map, length, ◌==◌, nat_le}
+use Rattle.std.specs.Prelude.{ℕ, ◌+◌, Bool, false, cond, not, ◌&&◌, ◌||◌, List, [], ◌∷◌, ◌++◌, map, ◌==◌, nat_le}
 use Rattle.std.specs.List.{range_with_len}
-use Rattle.book.specs.Meaning.{Material, Fitted, UnitState, free, standing, withheld, Meaning, material_count, unit_count}
+use Rattle.book.specs.Meaning.{Material, UnitState, free, standing, withheld, Meaning, material_count, unit_count}
 use Rattle.book.specs.Asked.{material_at}
 use Rattle.book.specs.Edits.{hidden_state}
 

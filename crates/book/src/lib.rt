@@ -1,4 +1,6 @@
 // What a book means, what it can be asked and how it is edited, and why a call is declined.
+#![tactic(auto)]
+
 ghost use Rattle.std.specs.Prelude.{◌≡◌};
 ghost use Rattle.book.specs.Refusals.{told};
 

@@ -1,4 +1,6 @@
 // The borders of what a book can hold, on both books: the first and the last number, the longest list, no rows at all.
+#![tactic(auto)]
+
 mod say;
 
 use anyhow::anyhow;

@@ -1,4 +1,6 @@
 // Number columns: a number stands right-justified in a field of fixed width, spaces to its left, no zero in front.
+#![tactic(auto)]
+
 ghost use Rattle.std.specs.Prelude.{◌≡◌, ℕ, ◌+◌, ◌%◌, ◌<◌, length, decimal, Decides};
 ghost use Rattle.columns.specs.Columns.{column, Fits, Shows, Holds, Wrote};
 ghost use Rattle.columns.specs.Reading.{Next};

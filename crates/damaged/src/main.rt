@@ -1,5 +1,7 @@
 // Good and damaged pages through the check, each with the answer that was worked out by hand from the page's rules.
 // Ends with an error at the first page that is answered otherwise.
+#![tactic(auto)]
+
 mod largest;
 mod table;
 mod trial;

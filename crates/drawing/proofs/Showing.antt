@@ -1,23 +1,22 @@
 -- A sheet that is written from the ranks within the largest supported set shows the maximal structure.
-use Rattle.std.proofs.Common.{◌≡◌, ℕ, zero, suc, ◌+◌, ◌-◌, ◌<◌, ◌≤◌, Bool, true, false, ltb, List, length, get_or, drop, Decides, sym, refl, ap, ◌∙◌, subst, ⊎_elim, arith}
+use Rattle.std.proofs.Common.{◌≡◌, ℕ, zero, suc, ◌+◌, ◌-◌, ◌<◌, ◌≤◌, false, List, length, get_or, drop, sym, refl, ap, ◌∙◌, ⊎_elim, arith}
 use Rattle.std.proofs.lemmas.List.{get_or-drop, length-drop}
-use Rattle.std.proofs.lemmas.Bool.{cases_Bool, ltb-true, ltb-false, cases_lt}
+use Rattle.std.proofs.lemmas.Bool.{cases_Bool, ltb-true, ltb-false}
 use Rattle.std.proofs.lemmas.Bool.Decides.{same_from_decides}
 use Rattle.book.specs.Declined.{inside}
-use Rattle.structure.specs.declared.Mark.{Mark}
 use Rattle.structure.specs.declared.Mark.TheVariants.{Unasked}
 use Rattle.structure.specs.Problem.{Numbers, Member, Problem, Bounded}
 use Rattle.structure.specs.Structures.{Path, Rank, UnionOfAll, HoldsEvery}
 use Rattle.structure.specs.Structures.Node.{unit}
 use Rattle.structure.specs.Supported.{Largest, any, Collected, AllMade}
-use Rattle.structure.specs.Answers.{Drawing, mark_of, mark_for, rank_of, Shows}
+use Rattle.structure.specs.Answers.{Drawing, mark_for, Shows}
 use Rattle.structure.proofs.Searches.{decided, is_inside}
 use Rattle.structure.proofs.Unions.{holds_every_is_union}
 use Rattle.structure.proofs.Collecting.{collected_holds_every, rank_inside}
 use Rattle.structure.proofs.Entries.{entry, entry_at, entry_none}
 use Rattle.structure.proofs.Sheets.{shows_by_number, unit_known, unit_unasked, material_unasked}
 use Rattle.drawing.specs.Composition.{Composed}
-use Rattle.drawing.specs.Picture.{MarksFor, ranked, Pictured}
+use Rattle.drawing.specs.Picture.{ranked, Pictured}
 
 -- a list of 1,024 values, written from a function of the number, has them for every number, if the others are as on a new sheet
 written_entry : {X : Type 0} (fresh : X) (xs : List X) (f : ℕ → X) → length xs ≡ 1024 → ((k : ℕ) → k < 1024 → get_or xs k fresh ≡ f (k + 1)) → ((k : ℕ) → ((1 ≤ k) × (k ≤ 1024) → ⊥) → f k ≡ fresh) →

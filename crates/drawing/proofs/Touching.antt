@@ -1,7 +1,7 @@
 -- Flags of what the units up to a number take and make.
-use Rattle.std.proofs.Common.{◌≡◌, ℕ, ◌+◌, ◌≤◌, Bool, true, false, ◌⊎◌, Decides, sym, ◌∙◌, subst, inl, inr, ⊎_elim, arith}
+use Rattle.std.proofs.Common.{◌≡◌, ℕ, ◌+◌, ◌≤◌, false, ◌⊎◌, Decides, subst, inl, inr, ⊎_elim, arith}
 use Rattle.std.proofs.lemmas.Bool.{cases_eq, both_ways}
-use Rattle.structure.specs.Problem.{Numbers, Member, Problem, Takes, Makes, Touched}
+use Rattle.structure.specs.Problem.{Numbers, Member, Problem, Takes, Makes}
 
 -- some unit of o, up to the last, takes x or makes it
 abbrev pub TouchedTo : Problem → Numbers → ℕ → ℕ → Type 0

@@ -1,5 +1,5 @@
 -- What is looked at before a drawing is begun.
-use Rattle.std.specs.Prelude.{◌≡◌, ℕ, ◌≤◌, List, [], ◌∷◌, take, Ok, Err, Result}
+use Rattle.std.specs.Prelude.{ℕ, ◌≤◌, List, [], ◌∷◌, Ok, Err, Result}
 use Rattle.book.specs.declared.Refusal.{Refusal}
 use Rattle.structure.specs.Problem.{Numbers, Member, Problem}
 use Rattle.structure.specs.Answers.{FirstHolds, NoneHolds, Ground, draw_grounds}

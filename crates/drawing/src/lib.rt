@@ -1,4 +1,6 @@
 // The drawing: which units some workable plant could use.
+#![tactic(auto)]
+
 mod composition;
 mod maximal;
 mod network;

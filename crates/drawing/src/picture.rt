@@ -6,7 +6,7 @@ ghost use Rattle.structure.specs.Supported.{Spanned};
 ghost use Rattle.structure.specs.Answers.{mark_for};
 ghost use Rattle.sheet.specs.Sheets.{contents};
 ghost use Rattle.drawing.specs.Network.{flagged, list_at, taken_down, SoundSide, Sound};
-ghost use Rattle.drawing.specs.Picture.{MarksFor, ranked as ranked-in, UpTo, Pictured};
+ghost use Rattle.drawing.specs.Picture.{MarksFor, ranked as ranked_in, UpTo, Pictured};
 
 use crate::network::{LIST, NUMBERS, Network, Side};
 use sheet::{PLACES, Sheet};
@@ -39,7 +39,7 @@ fn marks_for(drawn: &[bool; NUMBERS], there: &[bool; NUMBERS]) -> [Mark; PLACES]
 // The flags of the numbers that have a rank.
 fn ranked(ranks: &[u16; NUMBERS]) -> [bool; NUMBERS]
     ensures long { length result ≡ 1025 }
-    ensures each { (u : ℕ) → flagged result u ≡ ranked-in ranks.now u }
+    ensures each { (u : ℕ) → flagged result u ≡ ranked_in ranks.now u }
 {
     let mut flags = [false; NUMBERS];
     for unit in 0..NUMBERS {
@@ -99,7 +99,7 @@ fn from_first(ranks: &[u16; NUMBERS]) -> [u16; PLACES]
 // The sheet that shows the units that have a rank.
 pub(crate) fn pictured(network: &Network, ranks: &[u16; NUMBERS], sheet: Sheet) -> Sheet
     requires sound { Sound network.now }
-    requires standing { Within (ranked-in ranks.now) (flagged network.now.standing) }
+    requires standing { Within (ranked_in ranks.now) (flagged network.now.standing) }
     ensures { Pictured (taken_down network.now) ranks.now (contents result) }
 {
     let drawn = ranked(ranks);

@@ -1,4 +1,6 @@
 // The small farm drawn from its page and from a table, then with its only useful unit hidden, then with nothing bought.
+#![tactic(auto)]
+
 mod drawings;
 
 use book::{EditableBook, Lists, Refusal};

@@ -1,4 +1,6 @@
 // Worked farms, drawn. What each should print was worked out by hand.
+#![tactic(auto)]
+
 mod borders;
 mod reading;
 mod telling;

@@ -1,5 +1,5 @@
 -- Walking through the fields of a line from the left. Assumes nothing.
-use Rattle.std.proofs.Common.{◌≡◌, ℕ, zero, suc, ◌+◌, ◌<◌, ◌≤◌, List, [], ◌∷◌, ◌++◌, length, get_or, take, drop, sym, refl, ap, ◌∙◌, subst, arith}
+use Rattle.std.proofs.Common.{ℕ, zero, suc, ◌+◌, ◌<◌, List, [], ◌∷◌, take, drop, sym, refl, subst, arith}
 use Rattle.std.proofs.lemmas.List.{drop-drop}
 use Rattle.page.specs.Rules.{Field, Right}
 use Rattle.page.specs.Faults.{columns_before, field_at, FieldRight, AllRight, FirstWrong}

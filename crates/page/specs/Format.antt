@@ -1,6 +1,6 @@
 -- The page of a meaning, byte for byte. Bytes are their codes.
 use Rattle.std.specs.Prelude.{ℕ, ◌+◌, ◌-◌, ◌*◌, Bool, true, false, List, [], ◌∷◌, ◌++◌, length}
-use Rattle.book.specs.Meaning.{Material, Fitted, UnitState, free, standing, withheld, Meaning, material_count, unit_count}
+use Rattle.book.specs.Meaning.{Material, UnitState, free, standing, withheld, Meaning, material_count, unit_count}
 use Rattle.columns.specs.Columns.{blanks, column}
 use Rattle.page.specs.Layout.{number_width, list_fields}
 

@@ -1,7 +1,7 @@
 // The field reader: what one field of a page holds.
 ghost use Rattle.std.specs.Prelude.{◌≡◌, [], ◌∷◌, length, IfOk, if◌then◌else◌, Decides, nat_eq};
 ghost use Rattle.page.specs.Readers.{EntryTold, FieldTold, MayStand, NumberTold};
-ghost use Rattle.page.specs.Rules.{letter as one_of_lem};
+ghost use Rattle.page.specs.Rules.{letter as one_of};
 
 use crate::layout::MOST;
 use columns::{Content, read};
@@ -63,7 +63,7 @@ pub(crate) fn entry_in(
 
 // Whether a material's letter is one: '-' plain, 'P' wanted, 'R' bought, 'B' both.
 pub(crate) fn class_in(letter: u8) -> Result<(), FieldFault>
-    ensures { FieldTold (one_of_lem (45 ∷ (80 ∷ (82 ∷ (66 ∷ []))))) (letter ∷ []) result }
+    ensures { FieldTold (one_of (45 ∷ (80 ∷ (82 ∷ (66 ∷ []))))) (letter ∷ []) result }
 {
     match letter {
         b'-' | b'P' | b'R' | b'B' => Ok(()),
@@ -74,7 +74,7 @@ pub(crate) fn class_in(letter: u8) -> Result<(), FieldFault>
 // The highest material that a unit's line may name, by its letter: none where the number is free ('-'), and any of the
 // page's `materials` where a unit stands ('S'). A withheld number ('W') is no part of a page that is read.
 pub(crate) fn highest_named(letter: u8, materials: u16) -> Result<u16, FieldFault>
-    ensures told { FieldTold (one_of_lem (45 ∷ (83 ∷ []))) (letter ∷ []) result }
+    ensures told { FieldTold (one_of (45 ∷ (83 ∷ []))) (letter ∷ []) result }
     ensures highest { IfOk result (λ h. h ≡ (if nat_eq letter 45 then 0 else materials)) }
 {
     match letter {
@@ -86,7 +86,7 @@ pub(crate) fn highest_named(letter: u8, materials: u16) -> Result<u16, FieldFaul
 
 // Whether the byte is a newline.
 pub(crate) fn newline_in(byte: u8) -> Result<(), FieldFault>
-    ensures { FieldTold (one_of_lem (10 ∷ [])) (byte ∷ []) result }
+    ensures { FieldTold (one_of (10 ∷ [])) (byte ∷ []) result }
 {
     if byte == b'\n' {
         Ok(())

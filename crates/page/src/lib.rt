@@ -1,4 +1,6 @@
 // The page: its format, and the check of one.
+#![tactic(auto)]
+
 mod field;
 pub mod layout;
 mod line;

@@ -3,7 +3,7 @@ ghost use Rattle.std.specs.Prelude.{◌≡◌, ◌+◌, ◌^◌, ◌<◌, length
 ghost use Rattle.page.specs.Faults.{Counts};
 ghost use Rattle.page.specs.Layout.{counts, material, unit};
 ghost use Rattle.page.specs.Readers.{LineTold, ListTold, at_column};
-ghost use Rattle.page.specs.Rules.{entry_fields, fields as fields-of};
+ghost use Rattle.page.specs.Rules.{entry_fields, fields as fields_of};
 
 use crate::field::{
     FieldFault, class_in, count_in, entry_in, highest_named, newline_in, running_in,
@@ -32,7 +32,7 @@ fn at_column<T>(column: u16, read: Result<T, FieldFault>) -> Result<T, LineFault
 // The counts of materials and units that the first line shows.
 pub(crate) fn counts_line(line: &[u8]) -> Result<(u16, u16), LineFault>
     requires { length line.now ≡ 11 }
-    ensures told { LineTold (fields-of 0 counts line.now) line.now result }
+    ensures told { LineTold (fields_of 0 counts line.now) line.now result }
     ensures counted { IfOk result (λ c. Counts line.now c.0 c.1) }
 {
     let (first, rest) = line.split_at(NUMBER);
@@ -46,7 +46,7 @@ pub(crate) fn counts_line(line: &[u8]) -> Result<(u16, u16), LineFault>
 // Reads the line of the material with this number.
 pub(crate) fn material_line(line: &[u8], number: u16) -> Result<(), LineFault>
     requires { length line.now ≡ 7 }
-    ensures { LineTold (fields-of 0 (material number) line.now) line.now result }
+    ensures { LineTold (fields_of 0 (material number) line.now) line.now result }
 {
     let [letter, rest @ ..] = line else {
         return Err(LineFault {
@@ -86,7 +86,7 @@ fn list_in(list: &[u8], highest: u16, first: u16) -> Result<(), LineFault>
 // Reads the line of the unit with this number, on a page with this many materials.
 pub(crate) fn unit_line(line: &[u8], number: u16, materials: u16) -> Result<(), LineFault>
     requires { length line.now ≡ 87 }
-    ensures { LineTold (fields-of materials (unit number) line.now) line.now result }
+    ensures { LineTold (fields_of materials (unit number) line.now) line.now result }
 {
     let [letter, rest @ ..] = line else {
         return Err(LineFault {

@@ -1,14 +1,13 @@
 -- A unit's line with another letter and other lists: how long it is, what it means, and what it is on a page. Assumes nothing.
-use Rattle.std.proofs.Common.{◌≡◌, ℕ, ◌+◌, ◌<◌, ◌≤◌, true, ◌&&◌, ltb, leb, List, [], ◌∷◌, ◌++◌, length, take, drop, sym, refl, ap, ◌∙◌, arith}
+use Rattle.std.proofs.Common.{◌≡◌, ℕ, ◌+◌, ◌≤◌, true, ◌&&◌, ltb, leb, List, [], ◌∷◌, ◌++◌, length, take, drop, sym, refl, ap, ◌∙◌, arith}
 use Rattle.std.specs.List.{AllByRecursion as All}
 use Rattle.std.proofs.ByRecursion.{All-weaker}
-use Rattle.std.proofs.lemmas.List.{append_assoc, length-append, length-take-le, length-drop, take_at, drop_at, drop-drop}
+use Rattle.std.proofs.lemmas.List.{length-append, length-take-le, length-drop, take_at, drop_at, drop-drop}
 use Rattle.std.proofs.lemmas.Bool.{and_parts, leb-true, ltb-true}
 use Rattle.book.specs.Meaning.{Fitted, UnitState, free, standing, withheld, Listed, FittedWithin, StateWithin}
 use Rattle.book.specs.Declined.{climbs, fitting}
 use Rattle.columns.specs.Columns.{column}
 use Rattle.columns.proofs.Laws.{fits_five, length_column}
-use Rattle.page.specs.Layout.{number_width}
 use Rattle.page.specs.Format.{newline, state_letter, inputs_of, outputs_of, list_bytes, unit_line}
 use Rattle.page.specs.Rules.{inputs_in, outputs_in}
 use Rattle.page.specs.Checked.{Rising}

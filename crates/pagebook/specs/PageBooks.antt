@@ -1,8 +1,6 @@
 -- The page book: its meaning, its frame, and what opening one promises.
-use Rattle.std.specs.Prelude.{◌≡◌, ℕ, Bool, true, false, cond, List, length, drop, refl}
-use Rattle.std.proofs.Common.{◌∙◌}
-use Rattle.book.specs.Meaning.{Meaning, WellFormed}
-use Rattle.book.specs.Laws.{Laws}
+use Rattle.std.specs.Prelude.{◌≡◌, ℕ, Bool, false, cond, List, length, drop}
+use Rattle.book.specs.Meaning.{Meaning}
 use Rattle.book.specs.Layers.{empty_book}
 use Rattle.page.specs.Layout.{page_length}
 use Rattle.page.specs.Format.{page_of}

@@ -3,7 +3,7 @@
 ghost use Rattle.std.specs.Prelude.{◌≡◌, ◌+◌, ◌≤◌, false, length, IfOk};
 ghost use Rattle.book.specs.Edits.{Edited, lists_given, fit_edit, class_edit, hide_edit, show_edit, clear_edit};
 ghost use Rattle.page.specs.Layout.{line_length};
-ghost use Rattle.page.specs.Layout.{unit as line-of-unit};
+ghost use Rattle.page.specs.Layout.{unit as line_of_unit};
 ghost use Rattle.pagebook.specs.PageBooks.{meaning_of, BytesKept};
 ghost use Rattle.pagebook.specs.Writes.{withheld_line};
 
@@ -100,7 +100,7 @@ pub(crate) fn page_clear(open: bool, bytes: &mut [u8], unit: u16) -> Result<(), 
 // The line of a withheld unit. Any other number is refused, one outside the book too.
 fn withheld_line(open: bool, bytes: &mut [u8], unit: u16) -> Result<UnitLine, Refusal>
     ensures line { result ≡ withheld_line (meaning_of «open» bytes.old) unit }
-    ensures whole { IfOk result (λ line. line.start + line_length (line-of-unit unit) ≤ length bytes.old) }
+    ensures whole { IfOk result (λ line. line.start + line_length (line_of_unit unit) ≤ length bytes.old) }
     ensures same { bytes.new ≡ bytes.old }
 {
     match unit_line(open, bytes, unit) {

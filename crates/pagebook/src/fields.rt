@@ -6,7 +6,7 @@ ghost use Rattle.book.specs.Declined.{climbs, fitting};
 ghost use Rattle.book.specs.Edits.{lists_given};
 ghost use Rattle.columns.specs.Columns.{column};
 ghost use Rattle.page.specs.Layout.{number_width, list_fields, list_width, most, line_length};
-ghost use Rattle.page.specs.Layout.{unit as line-of-unit};
+ghost use Rattle.page.specs.Layout.{unit as line_of_unit};
 ghost use Rattle.page.specs.Format.{class_letter, list_bytes};
 ghost use Rattle.pagebook.specs.Writes.{over, refitted};
 
@@ -69,9 +69,9 @@ fn put_list(bytes: &mut [u8], start: usize, list: &[u16])
 
 // Writes a letter and two lists into the unit's line that begins at `start`. Its number and its newline stay.
 pub(crate) fn put_unit(bytes: &mut [u8], start: usize, letter: u8, lists: Lists<'_>)
-    requires within { start + line_length (line-of-unit 0) ≤ length bytes.old }
+    requires within { start + line_length (line_of_unit 0) ≤ length bytes.old }
     requires listed { FittedWithin most (lists_given lists) }
-    ensures { bytes.new ≡ over start (refitted letter (lists_given lists.entry) (take (line_length (line-of-unit 0)) (drop start bytes.old))) bytes.old }
+    ensures { bytes.new ≡ over start (refitted letter (lists_given lists.entry) (take (line_length (line_of_unit 0)) (drop start bytes.old))) bytes.old }
 {
     bytes[start] = letter;
     put_list(bytes, start + INPUTS, lists.inputs);

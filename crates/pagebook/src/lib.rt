@@ -1,4 +1,6 @@
 // A book on a page: it reads and edits the caller's bytes directly.
+#![tactic(auto)]
+
 ghost use Rattle.std.specs.Prelude.{◌≡◌, ℕ, false, Decides};
 ghost use Rattle.page.specs.Checked.{SomePage};
 ghost use Rattle.page.specs.Faults.{Refused};

@@ -5,7 +5,7 @@ ghost use Rattle.book.specs.Meaning.{material_count, unit_count};
 ghost use Rattle.book.specs.Declined.{inside};
 ghost use Rattle.book.specs.Asked.{where_inside, wanted_at, bought_at, stands_at, fitted_at, count_in, entry_in};
 ghost use Rattle.page.specs.Layout.{number_width, list_width, most, line_length, line_start, page_length};
-ghost use Rattle.page.specs.Layout.{material as line-of-material, unit as line-of-unit};
+ghost use Rattle.page.specs.Layout.{material as line_of_material, unit as line_of_unit};
 ghost use Rattle.pagebook.specs.Reading.{number_shown, materials_on, units_on, material_in};
 ghost use Rattle.pagebook.specs.PageBooks.{meaning_of};
 ghost use Rattle.pagebook.specs.Places.{line_of, lists_in, list_from, side_of, side_column};
@@ -101,8 +101,8 @@ pub(crate) fn counts(open: bool, bytes: &mut [u8]) -> (u16, u16)
 
 // Where the line of a material begins.
 pub(crate) fn material_line(open: bool, bytes: &mut [u8], material: u16) -> Option<usize>
-    ensures line { result ≡ where_inside material (material_count (meaning_of «open» bytes.old)) (line_start 0 (line-of-material material)) }
-    ensures whole { IfSome result (λ start. start + line_length (line-of-material material) ≤ length bytes.old) }
+    ensures line { result ≡ where_inside material (material_count (meaning_of «open» bytes.old)) (line_start 0 (line_of_material material)) }
+    ensures whole { IfSome result (λ start. start + line_length (line_of_material material) ≤ length bytes.old) }
     ensures same { bytes.new ≡ bytes.old }
 {
     let (materials, _) = counts(open, bytes);
@@ -147,7 +147,7 @@ fn marks_bought(letter: u8) -> bool
 // The line of a unit number.
 pub(crate) fn unit_line(open: bool, bytes: &mut [u8], unit: u16) -> Option<UnitLine>
     ensures line { result ≡ where_inside unit (unit_count (meaning_of «open» bytes.old)) (line_of (meaning_of «open» bytes.old) unit) }
-    ensures whole { IfSome result (λ line. line.start + line_length (line-of-unit unit) ≤ length bytes.old) }
+    ensures whole { IfSome result (λ line. line.start + line_length (line_of_unit unit) ≤ length bytes.old) }
     ensures same { bytes.new ≡ bytes.old }
 {
     let (materials, units) = counts(open, bytes);
@@ -172,7 +172,7 @@ pub(crate) fn page_stands(open: bool, bytes: &mut [u8], unit: u16) -> Option<boo
 // The line of a standing unit.
 fn standing_line(open: bool, bytes: &mut [u8], unit: u16) -> Option<UnitLine>
     ensures lists { MatchOption result (fitted_at unit (meaning_of «open» bytes.old) ≡ None) (λ line. fitted_at unit (meaning_of «open» bytes.old) ≡ Some (lists_in bytes.old line)) }
-    ensures whole { IfSome result (λ line. line.start + line_length (line-of-unit unit) ≤ length bytes.old) }
+    ensures whole { IfSome result (λ line. line.start + line_length (line_of_unit unit) ≤ length bytes.old) }
     ensures same { bytes.new ≡ bytes.old }
 {
     let line = unit_line(open, bytes, unit)?;

@@ -1,4 +1,6 @@
 // The waiting list: first in, first out, in a ring of places that the caller lends.
+#![tactic(auto)]
+
 ghost use Rattle.std.specs.Prelude.{◌-◌, ◌≤◌, length};
 
 mod ring;

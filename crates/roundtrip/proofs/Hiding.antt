@@ -1,11 +1,11 @@
 -- Hiding one unit number after another. Assumes nothing.
-use Rattle.std.proofs.Common.{◌≡◌, ℕ, zero, suc, ◌+◌, ◌-◌, ◌<◌, ◌≤◌, Bool, true, false, cond, not, leb, List, [], ◌∷◌, ◌++◌, map, length, get_or, take, drop, set, Some, None, Ok, Err, Result, sym, refl, ap, ◌∙◌, subst, arith}
+use Rattle.std.proofs.Common.{◌≡◌, ℕ, zero, suc, ◌+◌, ◌-◌, ◌<◌, ◌≤◌, Bool, true, false, not, leb, List, [], ◌∷◌, ◌++◌, map, length, get_or, take, drop, set, Some, Ok, Err, Result, sym, refl, ap, ◌∙◌, subst, arith}
 use Rattle.std.proofs.lemmas.List.{set-get_or, take_all, drop_all, append-nil}
 use Rattle.std.proofs.lemmas.Bool.{le-leb, and_from}
 use Rattle.book.specs.declared.Refusal.{Refusal}
 use Rattle.book.specs.declared.Refusal.TheVariants.{OutOfRange, NotStanding}
 use Rattle.book.specs.Meaning.{UnitState, free, standing, withheld, Meaning, unit_count}
-use Rattle.book.specs.Refusals.{Reason, first_refusal}
+use Rattle.book.specs.Refusals.{first_refusal}
 use Rattle.book.specs.Declined.{inside, is_standing, state_at, hide_reasons}
 use Rattle.book.specs.Edits.{hidden_state, with_unit, hide_edit, Edited}
 use Rattle.roundtrip.specs.ThereAndBack.{all_hidden}

@@ -1,17 +1,17 @@
 -- What is written out can be read, and an acceptable meaning is written out as it is. Assumes nothing.
-use Rattle.std.proofs.Common.{◌≡◌, ℕ, ◌+◌, ◌<◌, ◌≤◌, Bool, true, false, cond, not, ◌&&◌, ltb, leb, List, [], ◌∷◌, ◌++◌, map, length, take, drop, Some, None, Ok, Err, Result, sym, refl, ap, ◌∙◌, subst, arith}
+use Rattle.std.proofs.Common.{◌≡◌, ℕ, ◌≤◌, Bool, true, false, not, ◌&&◌, ltb, leb, List, [], ◌∷◌, ◌++◌, map, length, take, drop, Some, None, Ok, Err, Result, sym, refl, ap, ◌∙◌, subst, arith}
 use Rattle.std.proofs.lemmas.List.{length-map, take_at}
-use Rattle.std.proofs.lemmas.Bool.{ltb-true, ltb-false, leb-true, le-leb, lt-ltb, le-ltb, and_parts, and_from, not-false, both_ways}
+use Rattle.std.proofs.lemmas.Bool.{ltb-true, leb-true, le-leb, lt-ltb, le-ltb, and_parts, and_from, not-false}
 use Rattle.std.specs.List.{AllByRecursion as All}
 use Rattle.book.specs.declared.Refusal.{Refusal}
 use Rattle.book.specs.declared.Refusal.TheVariants.{OutOfRange, BadList, MemoryTooShort}
-use Rattle.book.specs.Meaning.{Fitted, UnitState, free, standing, withheld, Meaning, material_count, unit_count, StateWithin, WellFormed}
+use Rattle.book.specs.Meaning.{UnitState, free, standing, withheld, Meaning, material_count, unit_count, StateWithin, WellFormed}
 use Rattle.book.specs.Refusals.{Reason, first_refusal}
 use Rattle.book.specs.Declined.{inside}
 use Rattle.book.specs.Layers.{empty_book}
 use Rattle.page.specs.Layout.{most, page_length}
 use Rattle.page.specs.Format.{page_of}
-use Rattle.page.specs.Checked.{Rising, Settled, Acceptable, PageOf}
+use Rattle.page.specs.Checked.{Rising, Settled, Acceptable}
 use Rattle.page.proofs.Pages.{page_size}
 use Rattle.pagebook.specs.declared.PageBook.{PageBook}
 use Rattle.pagebook.specs.Reading.{of_page}

@@ -1,4 +1,6 @@
 // From a page to a book and back, and from a book to a page and back.
+#![tactic(auto)]
+
 ghost use Rattle.std.specs.Prelude.{◌≡◌, IfOk};
 ghost use Rattle.writing.specs.WrittenOut.{WrittenOut};
 ghost use Rattle.roundtrip.specs.ThereAndBack.{Copied, ReadsBack, PageHidden, all_hidden};

@@ -1,4 +1,6 @@
 // Pages to try the planner on.
+#![tactic(auto)]
+
 ghost use Rattle.std.specs.Prelude.{◌≡◌, take, IfOk};
 ghost use Rattle.samples.specs.Patched.{patched_with};
 

@@ -1,4 +1,6 @@
 // The sheet: what the last draw said of every unit number and every material.
+#![tactic(auto)]
+
 ghost use Rattle.std.specs.Prelude.{◌≡◌, length, count_by};
 ghost use Rattle.structure.specs.Answers.{is_drawn};
 

@@ -1,14 +1,13 @@
 -- The answer of a draw: it leaves no choice, and what it marks drawn is the maximal structure.
-use Rattle.std.proofs.Common.{◌≡◌, ℕ, ◌≤◌, Bool, true, false, ◌⊎◌, ◌↔◌, List, [], ◌∷◌, Ok, Err, Decides, count_by, Result, sym, refl, ap, ◌∙◌, subst, subst₂, inl, inr, ⊎_elim, arith}
+use Rattle.std.proofs.Common.{◌≡◌, ℕ, ◌≤◌, false, List, [], ◌∷◌, Ok, Err, Decides, count_by, Result, sym, refl, ap, ◌∙◌, subst, subst₂, inl, inr, ⊎_elim, arith}
 use Rattle.std.proofs.lemmas.Bool.{cases_Bool, both_ways, false≢true}
 use Rattle.book.specs.declared.Refusal.{Refusal}
-use Rattle.book.specs.declared.Refusal.TheVariants.{NothingWanted, NothingBought, WantedAndBought, Impossible}
+use Rattle.book.specs.declared.Refusal.TheVariants.{Impossible}
 use Rattle.structure.specs.declared.Mark.{Mark}
 use Rattle.structure.specs.declared.Mark.TheVariants.{Unasked, Idle, Drawn}
 use Rattle.structure.specs.Problem.{Numbers, Member, Within, Problem, Touched, Bounded}
-use Rattle.structure.specs.Structures.{SolutionStructure, HasSolution, UnitInSome, MaterialInSome, UnionOfAll, HoldsEvery, Rank}
-use Rattle.structure.specs.Supported.{NoneBoth}
-use Rattle.structure.specs.Answers.{Drawing, is_drawn, mark_of, rank_of, drawn, Marked, UnitMarked, MaterialMarked, Shows, Ground, FirstHolds, NoneHolds, SomeWanted, SomeBought, draw_grounds, Draws, ImpossibleExactly, DrawnHoldsEvery, DrawnExactlyInSome}
+use Rattle.structure.specs.Structures.{UnitInSome, MaterialInSome, UnionOfAll, Rank}
+use Rattle.structure.specs.Answers.{Drawing, is_drawn, mark_of, rank_of, drawn, Marked, Shows, Ground, FirstHolds, NoneHolds, draw_grounds, Draws, ImpossibleExactly, DrawnHoldsEvery, DrawnExactlyInSome}
 use Rattle.structure.proofs.Unions.{wanted_in, union_holds_every}
 use Rattle.structure.proofs.Entries.{same_entries}
 

@@ -1,10 +1,9 @@
 -- The union of all solution-structures is the one that holds every other.
-use Rattle.std.proofs.Common.{◌≡◌, ℕ, Bool, true, false, ◌⊎◌, sym, refl, ◌∙◌, inl, inr, ⊎_elim}
+use Rattle.std.proofs.Common.{◌≡◌, ℕ, inr}
 use mathlib.Core.Path.{fun_ext}
-use Rattle.std.proofs.lemmas.Bool.{cases_Bool, both_ways}
 use Rattle.std.proofs.lemmas.Bool.Decides.{same_from_decides}
 use Rattle.structure.specs.Problem.{Numbers, Member, Within, Problem, MadeIn, Touched}
-use Rattle.structure.specs.Structures.{Node, Path, SolutionStructure, HasSolution, UnitInSome, MaterialInSome, UnionOfAll, HoldsEvery}
+use Rattle.structure.specs.Structures.{Node, Path, SolutionStructure, HasSolution, UnionOfAll, HoldsEvery}
 use Rattle.structure.specs.Structures.Path.{arrived, taken, made}
 
 -- a path through fewer materials and units is one through more

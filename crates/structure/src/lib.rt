@@ -1,4 +1,6 @@
 // The subject itself: solution-structures, the maximal structure, ranks, and what a drawing answers.
+#![tactic(auto)]
+
 ghost use Rattle.structure.specs.Farms.{WorkedFarms};
 ghost use Rattle.structure.specs.Theory.{UnionIsLargest, CollectedSolves, LargestIsMaximal, AnswerIsSettled};
 

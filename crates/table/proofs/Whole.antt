@@ -13,14 +13,14 @@ use Rattle.table.specs.Tables.{table_meaning, TableKept, rows_keep}
 -- the table with other rows in one of its memories
 abbrev pub with_materials : TableBook → List MaterialRow → TableBook
 with_materials t rows = record {
-  materials = record { ref_ptr = t.materials.ptr; ghost_name = t.materials.name; now = rows };
+  materials = record { ref_ptr = t.materials.ref_ptr; ghost_name = t.materials.ghost_name; now = rows };
   units = t.units;
 }
 
 abbrev pub with_units : TableBook → List UnitRow → TableBook
 with_units t rows = record {
   materials = t.materials;
-  units = record { ref_ptr = t.units.ptr; ghost_name = t.units.name; now = rows };
+  units = record { ref_ptr = t.units.ref_ptr; ghost_name = t.units.ghost_name; now = rows };
 }
 
 -- what an edit owes of the table

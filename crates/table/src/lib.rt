@@ -1,4 +1,6 @@
 // A book in a table: rows of materials and rows of units, lent by the caller.
+#![tactic(auto)]
+
 ghost use Rattle.std.specs.Prelude.{◌≡◌};
 ghost use Rattle.book.specs.Meaning.{free};
 ghost use Rattle.book.specs.Edits.{Edited, lists_given, fit_edit};

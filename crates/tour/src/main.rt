@@ -1,4 +1,6 @@
 // A tour of the planner: pages through the check, and one farm as a book on a page and in a table.
+#![tactic(auto)]
+
 mod edits;
 mod pages;
 

@@ -1,5 +1,7 @@
 // The same edits on a page book and on a table book, chosen by a fixed generator: every answer, every question and every
 // page that is written out has to be the same. Ends with an error where one is not.
+#![tactic(auto)]
+
 mod choice;
 mod compare;
 mod generator;

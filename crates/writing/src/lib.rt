@@ -1,4 +1,6 @@
 // Writes any book out as a page.
+#![tactic(auto)]
+
 ghost use Rattle.std.specs.Prelude.{◌≡◌, ◌+◌, ◌*◌, ◌≤◌, length};
 ghost use Rattle.book.specs.Declined.{inside};
 ghost use Rattle.book.specs.Meaning.{material_count, unit_count};

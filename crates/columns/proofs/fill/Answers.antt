@@ -3,8 +3,8 @@ use Rattle.std.proofs.Common.{◌-◌, length, ◌∙◌, arith, length-set}
 use Rattle.columns.proofs.Filling.{some_column, lead_last, filled_first, filled_more, filled_all}
 use Rattle.columns.proofs.fill.Goals as goal
 
-pub overflow-sub-last : goal.overflow-sub-last
-overflow-sub-last c = some_column (length c.args.field.now) c.args.number c.requires
+pub overflow_sub-last : goal.overflow_sub-last
+overflow_sub-last c = some_column (length c.args.field.now) c.args.number c.requires
 
 pub bounds-field-last : goal.bounds-field-last
 bounds-field-last c = omega (arith, some_column (length c.args.field.now) c.args.number c.requires)
@@ -17,10 +17,10 @@ loop-place-preserved c =
     let i = c.loop-place.place in
     let rest = c.loop-place.rest in (
       omega arith,
-      filled_more c.loop-place.field i rest c.args.number c.byte-for.result (omega arith)
+      filled_more c.loop-place.field i rest c.args.number c.byte_for.result (omega arith)
           (omega (arith, length-set c.args.field.now (length c.args.field.now - 1) c.digit.result))
           c.loop-place.invariant.1
-          (lead_last i rest c.byte-for.result (omega arith) (omega arith) c.byte-for.ensures.space c.byte-for.ensures.digit),
+          (lead_last i rest c.byte_for.result (omega arith) (omega arith) c.byte_for.ensures.space c.byte_for.ensures.digit),
     )
 
 pub returns : goal.returns

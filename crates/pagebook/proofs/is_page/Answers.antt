@@ -10,7 +10,7 @@ accepted bytes (Err fault) told e = let z : ◌≡◌ {A = ℕ} 0 1 = cc in absu
 
 pub returns : goal.returns
 returns c =
-    let ok = c.is-ok.ensures.value in
+    let ok = c.is_ok.ensures.value in
     let only = c.check.ensures.only in
     record {
       page = (λ e. accepted c.args.bytes.now c.check.result c.check.ensures.told (sym ok ∙ e), λ some. ok ∙ sym (ap is_ok (only (Ok (some.0, some.1)) some.2)));

@@ -13,7 +13,7 @@ by_answer m before after (Err e) w told = tt
 
 pub returns : goal.returns
 returns g c = record {
-  told = c.write-out.ensures.told;
-  reads_back = by_answer _ c.args.memory.now c.write-out.new.memory c.write-out.result (g.B.Book.laws.well_formed c.args.book.now) c.write-out.ensures.told;
-  same = c.write-out.ensures.same;
+  told = c.write_out.ensures.told;
+  reads_back = by_answer _ c.args.memory.now c.write_out.new.memory c.write_out.result (g.B.Book.laws.well_formed c.args.book.now) c.write_out.ensures.told;
+  same = c.write_out.ensures.same;
 }

@@ -17,8 +17,8 @@ loop-done-preserved g c =
     let k = c.loop-done.done in
     let m = g.B.Book.meaning c.args.book.now in
     let step = lines_step material_line k m.materials plain (told_material (k + 1) m) (omega arith) (material_told m k (omega arith)) in (
-      c.put-material.ensures.same ∙ same,
-      put_step 7 k c.loop-done.invariant.1 c.put-material.ensures.put (ap (λ b. material_line (k + 1) (told_material (k + 1) (g.B.Book.meaning b))) same) step (omega arith) (omega arith),
+      c.put_material.ensures.same ∙ same,
+      put_step 7 k c.loop-done.invariant.1 c.put_material.ensures.put (ap (λ b. material_line (k + 1) (told_material (k + 1) (g.B.Book.meaning b))) same) step (omega arith) (omega arith),
     )
 
 pub returns : goal.returns

@@ -23,8 +23,8 @@ loop-done-preserved g c =
     let here : k < unit_count m = omega arith in
     let told = state_told m k here ∙ sym (get_or-map settled m.units k free free here) in
     let step = lines_step unit_line k us free (told_state (k + 1) m) (omega (arith, length-map m.units settled)) told in (
-      c.put-unit.ensures.same ∙ same,
-      put_step 87 k c.loop-done.invariant.1 c.put-unit.ensures.put (ap (λ b. unit_line (k + 1) (told_state (k + 1) (g.B.Book.meaning b))) same) step (omega arith) (omega arith),
+      c.put_unit.ensures.same ∙ same,
+      put_step 87 k c.loop-done.invariant.1 c.put_unit.ensures.put (ap (λ b. unit_line (k + 1) (told_state (k + 1) (g.B.Book.meaning b))) same) step (omega arith) (omega arith),
     )
 
 pub returns : goal.returns

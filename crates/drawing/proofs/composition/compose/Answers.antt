@@ -18,9 +18,9 @@ pub spread-requires : goal.spread-requires
 spread-requires c =
     let p = taken_down c.args.network.now in
     let asked = replicate 1025 false in
-    let a = subst (λ (l : List Need). Asked (Member p.wanted) 1 asked l c.ask-wanted.new.asked (waits c.ask-wanted.new.waiting)) c.new-waiting.ensures.empty c.ask-wanted.ensures.asked in
+    let a = subst (λ (l : List Need). Asked (Member p.wanted) 1 asked l c.ask_wanted.new.asked (waits c.ask_wanted.new.waiting)) c.new-waiting.ensures.empty c.ask_wanted.ensures.asked in
     record {
       sound = c.requires.sound;
       spreading = begun (replicate 1025 0) a (λ x. same_everywhere 1025 x false) (λ u. same_everywhere 1025 u 0);
-      room = (c.ask-wanted.ensures.room ∙ ap length c.new-waiting.ensures.memory, omega (arith, added_equally a));
+      room = (c.ask_wanted.ensures.room ∙ ap length c.new-waiting.ensures.memory, omega (arith, added_equally a));
     }

@@ -15,8 +15,8 @@ bounds-network-need c = omega (arith, (needed_known c.requires.sound c.args.live
 pub loop-link-init : goal.loop-link-init
 loop-link-init c = (walk_starts c.requires.sound c.args.live.now c.requires.spreading, refl)
 
-pub overflow-add-need : goal.overflow-add-need
-overflow-add-need c = omega (arith, count_by-le-length (λ (b : Bool). b) c.args.asked.now)
+pub overflow_add-need : goal.overflow_add-need
+overflow_add-need c = omega (arith, count_by-le-length (λ (b : Bool). b) c.args.asked.now)
 
 pub loop-link-smaller : goal.loop-link-smaller
 loop-link-smaller c = walk_less c.requires.sound c.args.live.now c.loop-link.invariant.0 (omega arith)
@@ -31,8 +31,8 @@ loop-link-preserved c =
     elim c.if-live-unit.branch [
       | then-live-unit+then-ranks-unit-eq0 w ↦
           let inside : u < length ranks = omega arith in (
-            simp (w.asked-is, w.ranks-is, w.waiting-is) (walk_ranks c.requires.sound live walk more w.if-live-unit.true w.if-ranks-unit-eq0.true inside w.ask-inputs.ensures.asked),
-            ap capacity w.waiting-is ∙ (w.ask-inputs.ensures.room ∙ c.loop-link.invariant.1),
+            simp (w.asked-is, w.ranks-is, w.waiting-is) (walk_ranks c.requires.sound live walk more w.if-live-unit.true w.if-ranks-unit-eq0.true inside w.ask_inputs.ensures.asked),
+            ap capacity w.waiting-is ∙ (w.ask_inputs.ensures.room ∙ c.loop-link.invariant.1),
           )
       | else-live-unit w ↦
           let done : Member (flagged live) u → Ranked ranks u =

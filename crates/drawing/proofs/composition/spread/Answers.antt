@@ -6,8 +6,8 @@ use Rattle.drawing.specs.Composition.{Spreading}
 use Rattle.drawing.proofs.Spreading.{at_first, ended}
 use Rattle.drawing.proofs.composition.spread.Goals as goal
 
-pub rank-makers-requires : goal.rank-makers-requires
-rank-makers-requires c =
+pub rank_makers-requires : goal.rank_makers-requires
+rank_makers-requires c =
     let p = taken_down c.args.network.now in
     let g = flagged c.args.live.now in
     let (r, s, room) = c.loop-need.invariant.0 in
@@ -21,11 +21,11 @@ rank-makers-requires c =
 
 pub loop-need-smaller : goal.loop-need-smaller
 loop-need-smaller c =
-    omega (arith, c.rank-makers.ensures.equally, ap length c.in-Some.ensures.told.oldest, count_by-le-length (λ (b : Bool). b) c.rank-makers.new.asked, count_by-le-length (λ (b : Bool). b) c.loop-need.asked)
+    omega (arith, c.rank_makers.ensures.equally, ap length c.in-Some.ensures.told.oldest, count_by-le-length (λ (b : Bool). b) c.rank_makers.new.asked, count_by-le-length (λ (b : Bool). b) c.loop-need.asked)
 
 pub returns : goal.returns
 returns c =
     let p = taken_down c.args.network.now in
     let g = flagged c.args.live.now in
     let (r, s, room) = c.loop-need.invariant.0 in
-    ended (subst (λ (l : List Need). Spreading p g c.loop-need.asked c.loop-need.ranks l r) c.in-default.ensures.told.empty s) c.loop-need.invariant.2
+    ended (subst (λ (l : List Need). Spreading p g c.loop-need.asked c.loop-need.ranks l r) c.in_default.ensures.told.empty s) c.loop-need.invariant.2

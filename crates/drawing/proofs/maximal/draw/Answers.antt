@@ -8,13 +8,13 @@ use Rattle.drawing.proofs.maximal.draw.Goals as goal
 
 pub returns : goal.returns
 returns g c =
-    let told = subst (λ (p : Problem). Draws p (answer_of c.draw-network.result)) c.take-down-network.ensures.seen c.draw-network.ensures in
+    let told = subst (λ (p : Problem). Draws p (answer_of c.draw_network.result)) c.take_down-network.ensures.seen c.draw_network.ensures in
     let bounded = problem_bounded _ (g.B.Book.laws.well_formed c.args.book.now) in
     record {
       told = told;
       only = λ other o. one_answer _ bounded _ other told o;
       impossible_exactly = impossible_exactly _ _ told;
-      drawn-holds-every = holds_every _ bounded _ told;
-      drawn-exactly-in-some = exactly_in_some _ bounded _ told;
-      same = c.take-down-network.ensures.same;
+      drawn_holds_every = holds_every _ bounded _ told;
+      drawn_exactly_in_some = exactly_in_some _ bounded _ told;
+      same = c.take_down-network.ensures.same;
     }

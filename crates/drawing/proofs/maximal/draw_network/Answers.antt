@@ -1,19 +1,18 @@
-use Rattle.std.proofs.Common.{sym, ◌∙◌, subst, arith}
 use Rattle.std.proofs.lemmas.Result.{err_from_is_err_and}
-use Rattle.std.proofs.lemmas.Bool.{both_ways, not-true, not-false, false≢true}
+use Rattle.std.proofs.lemmas.Bool.{both_ways}
 use Rattle.drawing.specs.Network.{taken_down, flagged}
 use Rattle.drawing.proofs.Deciding.{refused_early, ranked_stand, refused_impossible, accepted}
 use Rattle.drawing.proofs.maximal.draw_network.Goals as goal
 
-pub returns-in-err-ready : goal.returns-in-err-ready
-returns-in-err-ready c =
-    let p = err_from_is_err_and c.from-residual.result c.from-residual.ensures.1 in
-    rw (p.1, p.2) (refused_early (taken_down c.args.network.now) _ c.in-err-ready.ensures)
+pub returns-in_err-ready : goal.returns-in_err-ready
+returns-in_err-ready c =
+    let p = err_from_is_err_and c.from_residual.result c.from_residual.ensures.1 in
+    rw (p.1, p.2) (refused_early (taken_down c.args.network.now) _ c.in_err-ready.ensures)
 
-pub returns-then-not-all-made : goal.returns-then-not-all-made
-returns-then-not-all-made c =
-    refused_impossible (taken_down c.args.network.now) c.requires.bounded c.in-ok-ready.ensures (flagged c.reduce-reduced.result.live) c.reduce-reduced.ensures.largest
-    c.reduce-reduced.result.makers c.reduce-reduced.ensures.counted (λ all. both_ways c.all-made.result c.if-not-all-made.true (c.all-made.ensures.1 all))
+pub returns-then-not-all_made : goal.returns-then-not-all_made
+returns-then-not-all_made c =
+    refused_impossible (taken_down c.args.network.now) c.requires.bounded c.in_ok-ready.ensures (flagged c.reduce-reduced.result.live) c.reduce-reduced.ensures.largest
+    c.reduce-reduced.result.makers c.reduce-reduced.ensures.counted (λ all. both_ways c.all_made.result c.if-not-all_made.true (c.all_made.ensures.1 all))
 
 pub pictured-requires : goal.pictured-requires
 pictured-requires c = record {
@@ -23,6 +22,6 @@ pictured-requires c = record {
 
 pub returns : goal.returns
 returns c =
-    accepted (taken_down c.args.network.now) c.requires.bounded c.in-ok-ready.ensures (flagged c.reduce-reduced.result.live) c.reduce-reduced.ensures.largest
-    c.reduce-reduced.result.makers c.reduce-reduced.ensures.counted c.requires.few_units c.requires.few_materials (c.all-made.ensures.0 c.if-not-all-made.false)
+    accepted (taken_down c.args.network.now) c.requires.bounded c.in_ok-ready.ensures (flagged c.reduce-reduced.result.live) c.reduce-reduced.ensures.largest
+    c.reduce-reduced.result.makers c.reduce-reduced.ensures.counted c.requires.few_units c.requires.few_materials (c.all_made.ensures.0 c.if-not-all_made.false)
     c.compose-ranks.result c.compose-ranks.ensures _ c.pictured.ensures

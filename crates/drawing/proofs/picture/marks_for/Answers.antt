@@ -1,4 +1,4 @@
-use Rattle.std.proofs.Common.{◌≡◌, ◌<◌, ◌≢◌, length, ◌∙◌, arith, below_more}
+use Rattle.std.proofs.Common.{◌≢◌, ◌∙◌, arith, below_more}
 use Rattle.std.proofs.lemmas.List.{length-set, get_or-set_same, get_or-set_other}
 use Rattle.structure.specs.declared.Mark.TheVariants.{Unasked}
 use Rattle.drawing.proofs.picture.marks_for.Goals as goal

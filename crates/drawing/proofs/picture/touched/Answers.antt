@@ -1,4 +1,4 @@
-use Rattle.std.proofs.Common.{◌≡◌, ℕ, ◌+◌, ◌<◌, ◌≤◌, ◌⊎◌, sym, refl, ◌∙◌, inl, inr, ⊎_elim, arith}
+use Rattle.std.proofs.Common.{sym, refl, ◌∙◌, arith}
 use Rattle.std.proofs.lemmas.Bool.{false≢true}
 use Rattle.drawing.specs.Network.{flagged, taken_down}
 use Rattle.drawing.proofs.Flags.{flag_none}
@@ -16,9 +16,9 @@ pub loop-place-preserved : goal.loop-place-preserved
 loop-place-preserved c =
     elim c.if-units-unit.branch [
       | then-units-unit w ↦ simp w.flags-is (
-        w.flag-list-then-units-unit.array_long,
+        w.flag_list-then-units-unit.array_long,
         touched_more (taken_down c.args.network.now) (flagged c.args.units.now) c.loop-place.place (flagged c.loop-place.flags) c.loop-place.invariant.1 _ _ w.if-units-unit.true
-            w.flag-list.ensures w.flag-list-then-units-unit.ensures,
+            w.flag_list.ensures w.flag_list-then-units-unit.ensures,
       )
       | else-units-unit w ↦ simp w.flags-is (
         c.loop-place.invariant.0,

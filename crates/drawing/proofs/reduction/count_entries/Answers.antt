@@ -6,8 +6,8 @@ use Rattle.drawing.specs.Reduction.{times}
 use Rattle.drawing.proofs.Arcs.{times_same, times_other}
 use Rattle.drawing.proofs.reduction.count_entries.Goals as goal
 
-pub overflow-add-makers : goal.overflow-add-makers
-overflow-add-makers c =
+pub overflow_add-makers : goal.overflow_add-makers
+overflow_add-makers c =
     let entries = c.args.entries.now in
     let i = c.loop-x.x-index in
     let x = get_or entries i 0 in

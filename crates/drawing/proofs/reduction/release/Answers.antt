@@ -1,4 +1,4 @@
-use Rattle.std.proofs.Common.{◌≡◌, ℕ, ◌+◌, ◌-◌, ◌<◌, ◌≤◌, cond, eqb, List, [], ◌∷◌, ◌++◌, length, get_or, take, sym, ap, ◌∙◌, subst, subst₂, arith}
+use Rattle.std.proofs.Common.{◌≡◌, ℕ, ◌+◌, ◌<◌, ◌≤◌, cond, eqb, List, [], ◌∷◌, ◌++◌, length, get_or, take, sym, ap, ◌∙◌, subst, subst₂, arith}
 use Rattle.std.proofs.lemmas.List.{take_more, take_all}
 use Rattle.std.proofs.lemmas.List.Sums.{sum_by-take-le}
 use Rattle.queue.specs.Waiting.{waits, capacity}
@@ -15,8 +15,8 @@ next_counted entries ms i h enough =
     let x = get_or entries i 0 in
     omega (arith, enough x, ap (times x) (take_more entries i 0 h), sum_by-take-le (λ (y : ℕ). cond (eqb x y) 1 0) entries (i + 1))
 
-pub overflow-sub-makers : goal.overflow-sub-makers
-overflow-sub-makers c =
+pub overflow_sub-makers : goal.overflow_sub-makers
+overflow_sub-makers c =
     let entries = c.args.entries.now in
     let i = c.loop-x.x-index in
     some_left (get_or entries i 0) c.loop-x.invariant.0 (next_counted entries c.args.makers.now i (omega arith) c.requires.counted)

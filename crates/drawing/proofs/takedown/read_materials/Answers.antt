@@ -30,11 +30,11 @@ loop-done-preserved g c =
     let few : k ≤ 1024 = omega (arith, (g.B.Book.laws.well_formed c.args.book.now).few_materials) in
     let before = c.loop-done.invariant.0 in
     let between = c.wanted.ensures.same ∙ before in
-    let wanted = flag_again (λ b. wanted_at k (g.B.Book.meaning b)) c.unwrap-or.ensures c.wanted.ensures.answer before in
-    let bought = flag_again (λ b. bought_at k (g.B.Book.meaning b)) c.unwrap-or-in-loop-done.ensures c.bought.ensures.answer between in (
+    let wanted = flag_again (λ b. wanted_at k (g.B.Book.meaning b)) c.unwrap_or.ensures c.wanted.ensures.answer before in
+    let bought = flag_again (λ b. bought_at k (g.B.Book.meaning b)) c.unwrap_or-in-loop-done.ensures c.bought.ensures.answer between in (
       c.bought.ensures.same ∙ between,
-      flags_more c.loop-done.wanted p.wanted k c.unwrap-or.result few c.loop-done.invariant.1 wanted,
-      flags_more c.loop-done.bought p.bought k c.unwrap-or-in-loop-done.result few c.loop-done.invariant.2 bought,
+      flags_more c.loop-done.wanted p.wanted k c.unwrap_or.result few c.loop-done.invariant.1 wanted,
+      flags_more c.loop-done.bought p.bought k c.unwrap_or-in-loop-done.result few c.loop-done.invariant.2 bought,
     )
 
 pub returns : goal.returns

@@ -17,16 +17,16 @@ loop-done-init g c =
     let m = g.B.Book.meaning c.args.book.now in
     let p = problem m in (
       refl,
-      flags_none c.args.standing.now p.standing c.requires.none-standing (no_flag 0 (unit_count m) (is_standing (state_at m 0)) (inl refl)),
-      lists_none c.args.inputs.now p.inputs c.requires.no-inputs (no_list m (list_in Taken) 0 (inl refl)),
-      lists_none c.args.outputs.now p.outputs c.requires.no-outputs (no_list m (list_in Made) 0 (inl refl)),
+      flags_none c.args.standing.now p.standing c.requires.none_standing (no_flag 0 (unit_count m) (is_standing (state_at m 0)) (inl refl)),
+      lists_none c.args.inputs.now p.inputs c.requires.no_inputs (no_list m (list_in Taken) 0 (inl refl)),
+      lists_none c.args.outputs.now p.outputs c.requires.no_outputs (no_list m (list_in Made) 0 (inl refl)),
     )
 
 pub bounds-standing-unit : goal.bounds-standing-unit
 bounds-standing-unit g c = omega (arith, (g.B.Book.laws.well_formed c.args.book.now).few_units)
 
-pub read-list-requires : goal.read-list-requires
-read-list-requires g c =
+pub read_list-requires : goal.read_list-requires
+read_list-requires g c =
     let p = problem (g.B.Book.meaning c.args.book.now) in
     record {
       known = omega (arith, (g.B.Book.laws.well_formed c.args.book.now).few_units);
@@ -34,8 +34,8 @@ read-list-requires g c =
       last = lists_past c.loop-done.inputs p.inputs (c.loop-done.done + 1) c.loop-done.invariant.2;
     }
 
-pub read-list-requires-then-stands : goal.read-list-requires-then-stands
-read-list-requires-then-stands g c =
+pub read_list-requires-then-stands : goal.read_list-requires-then-stands
+read_list-requires-then-stands g c =
     let p = problem (g.B.Book.meaning c.args.book.now) in
     record {
       known = omega (arith, (g.B.Book.laws.well_formed c.args.book.now).few_units);
@@ -51,17 +51,17 @@ loop-done-preserved g c =
     let few : k ≤ 1024 = omega (arith, (g.B.Book.laws.well_formed c.args.book.now).few_units) in
     let before = c.loop-done.invariant.0 in
     let asked = c.stands.ensures.same ∙ before in
-    let stands = flag_again (λ b. stands_at k (g.B.Book.meaning b)) c.unwrap-or-stands.ensures c.stands.ensures.answer before in
-    let flags = flags_more c.loop-done.standing p.standing k c.unwrap-or-stands.result few c.loop-done.invariant.1 stands in
+    let stands = flag_again (λ b. stands_at k (g.B.Book.meaning b)) c.unwrap_or-stands.ensures c.stands.ensures.answer before in
+    let flags = flags_more c.loop-done.standing p.standing k c.unwrap_or-stands.result few c.loop-done.invariant.1 stands in
     elim c.if-stands.branch [
       | then-stands w ↦
-          let between = w.read-list.ensures.same ∙ asked in (
-            w.book-is ∙ (w.read-list-then-stands.ensures.same ∙ between),
+          let between = w.read_list.ensures.same ∙ asked in (
+            w.book-is ∙ (w.read_list-then-stands.ensures.same ∙ between),
             flags,
             subst (λ (s : Side). Holds s (below (k + 1) [] p.inputs)) (sym w.inputs-is)
-                (lists_more c.loop-done.inputs w.read-list.new.side p.inputs k _ c.loop-done.invariant.2 w.read-list.ensures.held (ap (λ b. list_told Taken k (g.B.Book.meaning b)) asked)),
+                (lists_more c.loop-done.inputs w.read_list.new.side p.inputs k _ c.loop-done.invariant.2 w.read_list.ensures.held (ap (λ b. list_told Taken k (g.B.Book.meaning b)) asked)),
             subst (λ (s : Side). Holds s (below (k + 1) [] p.outputs)) (sym w.outputs-is)
-                (lists_more c.loop-done.outputs w.read-list-then-stands.new.side p.outputs k _ c.loop-done.invariant.3 w.read-list-then-stands.ensures.held (ap (λ b. list_told Made k (g.B.Book.meaning b)) between)),
+                (lists_more c.loop-done.outputs w.read_list-then-stands.new.side p.outputs k _ c.loop-done.invariant.3 w.read_list-then-stands.ensures.held (ap (λ b. list_told Made k (g.B.Book.meaning b)) between)),
           )
       | else-stands w ↦
           let idle : p.standing k ≡ false = sym stands ∙ w.if-stands.false in (

@@ -8,19 +8,19 @@ use Rattle.drawing.proofs.Telling.{asked_again}
 use Rattle.drawing.proofs.TakingDown.{problem_seen, network_sound}
 use Rattle.drawing.proofs.takedown.take_down.Goals as goal
 
-pub read-materials-requires : goal.read-materials-requires
-read-materials-requires g c = record {
+pub read_materials-requires : goal.read_materials-requires
+read_materials-requires g c = record {
   counted = asked_again (λ b. material_count (g.B.Book.meaning b)) c.materials-materials.ensures.answer (sym (c.units-units.ensures.same ∙ c.materials-materials.ensures.same));
-  none_wanted = c.no-flags-wanted.ensures;
-  none_bought = c.no-flags-bought.ensures;
+  none_wanted = c.no_flags-wanted.ensures;
+  none_bought = c.no_flags-bought.ensures;
 }
 
-pub read-units-requires : goal.read-units-requires
-read-units-requires g c = record {
+pub read_units-requires : goal.read_units-requires
+read_units-requires g c = record {
   counted = asked_again (λ b. unit_count (g.B.Book.meaning b)) c.units-units.ensures.answer (sym (c.read_materials.ensures.same ∙ c.units-units.ensures.same));
-  none-standing = c.no-flags-standing.ensures;
-  no-inputs = c.empty-side-inputs.ensures;
-  no-outputs = c.empty-side-outputs.ensures;
+  none_standing = c.no_flags-standing.ensures;
+  no_inputs = c.empty_side-inputs.ensures;
+  no_outputs = c.empty_side-outputs.ensures;
 }
 
 pub returns : goal.returns

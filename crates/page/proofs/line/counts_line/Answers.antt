@@ -1,5 +1,5 @@
 -- The first line, split into its two numbers and its end.
-use Rattle.std.proofs.Common.{◌≡◌, ℕ, ◌<◌, List, [], ◌∷◌, ◌++◌, length, get_or, drop, Ok, sym, ap, ◌∙◌, subst, arith}
+use Rattle.std.proofs.Common.{◌≡◌, ℕ, ◌<◌, List, [], ◌∷◌, ◌++◌, length, get_or, drop, Ok, sym, ap, ◌∙◌, arith}
 use Rattle.std.proofs.lemmas.List.{take_all}
 use Rattle.std.proofs.lemmas.Result.{IfOk-from_err}
 use Rattle.columns.specs.Columns.{column}
@@ -45,49 +45,49 @@ module _ {line first middle second last : List ℕ} (a : Split 5 line first midd
         ∙ ap (λ p. column 5 l ++ p) (split_whole b ∙ (ap (λ p. p ++ last) (column_from_shows second n five2 s.0) ∙ ap (λ p. column 5 n ++ p) (newline_alone last one t)))));
   }
 
-pub returns-in-err-units : goal.returns-in-err-units
-returns-in-err-units c =
-    let first = c.split-at.result.0.now in
-    let second = c.split-at-2.result.0.now in
-    let m = kept_value (NumberTold 1 512 first) 1 c.count_in.result c.in-ok-materials.materials c.in-ok-materials.ensures c.count_in.ensures in
+pub returns-in_err-units : goal.returns-in_err-units
+returns-in_err-units c =
+    let first = c.split_at.result.0.now in
+    let second = c.split_at-2.result.0.now in
+    let m = kept_value (NumberTold 1 512 first) 1 c.count_in.result c.in_ok-materials.materials c.in_ok-materials.ensures c.count_in.ensures in
     record {
-      told = field_exit (NumberTold 1 512 second) _ _ 6 c.count-in-2.result c.in-err-units.field-0.0 c.from-residual-in-err-units.result
-          c.in-err-units.ensures c.count-in-2.ensures c.from-residual-in-err-units.ensures.1
-          (λ f n. units_wrong (record { front = c.split-at.ensures.front; back = c.split-at.ensures.back }) (record { front = c.split-at-2.ensures.front; back = c.split-at-2.ensures.back })
-          (number_right 1 512 first c.in-ok-materials.materials m) n);
-      counted = IfOk-from_err c.from-residual-in-err-units.result _ c.from-residual-in-err-units.ensures.0;
+      told = field_exit (NumberTold 1 512 second) _ _ 6 c.count_in-2.result c.in_err-units.field-0.0 c.from_residual-in_err-units.result
+          c.in_err-units.ensures c.count_in-2.ensures c.from_residual-in_err-units.ensures.1
+          (λ f n. units_wrong (record { front = c.split_at.ensures.front; back = c.split_at.ensures.back }) (record { front = c.split_at-2.ensures.front; back = c.split_at-2.ensures.back })
+          (number_right 1 512 first c.in_ok-materials.materials m) n);
+      counted = IfOk-from_err c.from_residual-in_err-units.result _ c.from_residual-in_err-units.ensures.0;
     }
 
-pub returns-in-err-at-column : goal.returns-in-err-at-column
-returns-in-err-at-column c =
-    let first = c.split-at.result.0.now in
-    let second = c.split-at-2.result.0.now in
-    let last = c.split-at-2.result.1.now in
-    let m = kept_value (NumberTold 1 512 first) 1 c.count_in.result c.in-ok-materials.materials c.in-ok-materials.ensures c.count_in.ensures in
-    let u = kept_value (NumberTold 1 512 second) 6 c.count-in-2.result c.in-ok-units.units c.in-ok-units.ensures c.count-in-2.ensures in
-    let one : length last ≡ 1 = omega (arith, c.requires, c.split-at.ensures.back_len, c.split-at-2.ensures.back_len) in
+pub returns-in_err-at_column : goal.returns-in_err-at_column
+returns-in_err-at_column c =
+    let first = c.split_at.result.0.now in
+    let second = c.split_at-2.result.0.now in
+    let last = c.split_at-2.result.1.now in
+    let m = kept_value (NumberTold 1 512 first) 1 c.count_in.result c.in_ok-materials.materials c.in_ok-materials.ensures c.count_in.ensures in
+    let u = kept_value (NumberTold 1 512 second) 6 c.count_in-2.result c.in_ok-units.units c.in_ok-units.ensures c.count_in-2.ensures in
+    let one : length last ≡ 1 = omega (arith, c.requires, c.split_at.ensures.back_len, c.split_at-2.ensures.back_len) in
     record {
-      told = field_exit (FieldTold (letter (10 ∷ [])) (get_or last 0 0 ∷ [])) _ _ 11 c.newline-in.result c.in-err-at-column.field-0.0 c.from-residual-in-err-at-column.result
-          c.in-err-at-column.ensures c.newline-in.ensures c.from-residual-in-err-at-column.ensures.1
-          (λ f n. end_wrong (record { front = c.split-at.ensures.front; back = c.split-at.ensures.back }) (record { front = c.split-at-2.ensures.front; back = c.split-at-2.ensures.back })
-          (omega arith) (number_right 1 512 first c.in-ok-materials.materials m) (number_right 1 512 second c.in-ok-units.units u) n);
-      counted = IfOk-from_err c.from-residual-in-err-at-column.result _ c.from-residual-in-err-at-column.ensures.0;
+      told = field_exit (FieldTold (letter (10 ∷ [])) (get_or last 0 0 ∷ [])) _ _ 11 c.newline_in.result c.in_err-at_column.field-0.0 c.from_residual-in_err-at_column.result
+          c.in_err-at_column.ensures c.newline_in.ensures c.from_residual-in_err-at_column.ensures.1
+          (λ f n. end_wrong (record { front = c.split_at.ensures.front; back = c.split_at.ensures.back }) (record { front = c.split_at-2.ensures.front; back = c.split_at-2.ensures.back })
+          (omega arith) (number_right 1 512 first c.in_ok-materials.materials m) (number_right 1 512 second c.in_ok-units.units u) n);
+      counted = IfOk-from_err c.from_residual-in_err-at_column.result _ c.from_residual-in_err-at_column.ensures.0;
     }
 
 pub returns : goal.returns
 returns c =
     let line = c.args.line.now in
-    let first = c.split-at.result.0.now in
-    let middle = c.split-at.result.1.now in
-    let second = c.split-at-2.result.0.now in
-    let last = c.split-at-2.result.1.now in
-    let m = kept_value (NumberTold 1 512 first) 1 c.count_in.result c.in-ok-materials.materials c.in-ok-materials.ensures c.count_in.ensures in
-    let u = kept_value (NumberTold 1 512 second) 6 c.count-in-2.result c.in-ok-units.units c.in-ok-units.ensures c.count-in-2.ensures in
-    let end = kept_value (FieldTold (letter (10 ∷ [])) (get_or last 0 0 ∷ [])) 11 c.newline-in.result c.in-ok-at-column.field-0 c.in-ok-at-column.ensures c.newline-in.ensures in
-    let one : length last ≡ 1 = omega (arith, c.requires, c.split-at.ensures.back_len, c.split-at-2.ensures.back_len) in
-    let a : Split 5 line first middle = record { front = c.split-at.ensures.front; back = c.split-at.ensures.back } in
-    let b : Split 5 middle second last = record { front = c.split-at-2.ensures.front; back = c.split-at-2.ensures.back } in
+    let first = c.split_at.result.0.now in
+    let middle = c.split_at.result.1.now in
+    let second = c.split_at-2.result.0.now in
+    let last = c.split_at-2.result.1.now in
+    let m = kept_value (NumberTold 1 512 first) 1 c.count_in.result c.in_ok-materials.materials c.in_ok-materials.ensures c.count_in.ensures in
+    let u = kept_value (NumberTold 1 512 second) 6 c.count_in-2.result c.in_ok-units.units c.in_ok-units.ensures c.count_in-2.ensures in
+    let end = kept_value (FieldTold (letter (10 ∷ [])) (get_or last 0 0 ∷ [])) 11 c.newline_in.result c.in_ok-at_column.field-0 c.in_ok-at_column.ensures c.newline_in.ensures in
+    let one : length last ≡ 1 = omega (arith, c.requires, c.split_at.ensures.back_len, c.split_at-2.ensures.back_len) in
+    let a : Split 5 line first middle = record { front = c.split_at.ensures.front; back = c.split_at.ensures.back } in
+    let b : Split 5 middle second last = record { front = c.split_at-2.ensures.front; back = c.split_at-2.ensures.back } in
     record {
-      told = line_right a b (omega arith) (number_right 1 512 first c.in-ok-materials.materials m) (number_right 1 512 second c.in-ok-units.units u) end;
-      counted = line_counts a b c.in-ok-materials.materials c.in-ok-units.units c.requires c.split-at.ensures.front-len c.split-at-2.ensures.front-len one m u end;
+      told = line_right a b (omega arith) (number_right 1 512 first c.in_ok-materials.materials m) (number_right 1 512 second c.in_ok-units.units u) end;
+      counted = line_counts a b c.in_ok-materials.materials c.in_ok-units.units c.requires c.split_at.ensures.front_len c.split_at-2.ensures.front_len one m u end;
     }

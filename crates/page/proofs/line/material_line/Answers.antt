@@ -26,29 +26,29 @@ module _ (k : ℕ) {line first middle shown last : List ℕ} (a : Split 1 line f
       right_more (letter_field class) (number_field k k ∷ newline_field ∷ []) a r
       (right_more (number_field k k) (newline_field ∷ []) b s (right_more newline_field [] (letter_split last some) t (all_none (drop 1 last))))
 
-pub returns-in-err-at-column-2 : goal.returns-in-err-at-column-2
-returns-in-err-at-column-2 c =
+pub returns-in_err-at_column-2 : goal.returns-in_err-at_column-2
+returns-in_err-at_column-2 c =
     let line = c.args.line.now in
     let k = c.args.number in
     let first = get_or line 0 0 ∷ [] in
-    let shown = c.split-at.result.0.now in
-    let r = kept_value (FieldTold (letter class) first) 1 c.class_in.result c.in-ok-at-column.field-0 c.in-ok-at-column.ensures c.class_in.ensures in
-    field_exit (NumberTold k k shown) _ _ 2 c.running-in.result c.in-err-at-column-2.field-0.0 c.from-residual-in-err-at-column-2.result
-    c.in-err-at-column-2.ensures c.running-in.ensures c.from-residual-in-err-at-column-2.ensures.1
-    (λ f n. number_wrong k (letter_rest line (omega (arith, c.requires))) (record { front = c.split-at.ensures.front; back = c.split-at.ensures.back }) r n)
+    let shown = c.split_at.result.0.now in
+    let r = kept_value (FieldTold (letter class) first) 1 c.class_in.result c.in_ok-at_column.field-0 c.in_ok-at_column.ensures c.class_in.ensures in
+    field_exit (NumberTold k k shown) _ _ 2 c.running_in.result c.in_err-at_column-2.field-0.0 c.from_residual-in_err-at_column-2.result
+    c.in_err-at_column-2.ensures c.running_in.ensures c.from_residual-in_err-at_column-2.ensures.1
+    (λ f n. number_wrong k (letter_rest line (omega (arith, c.requires))) (record { front = c.split_at.ensures.front; back = c.split_at.ensures.back }) r n)
 
 pub returns : goal.returns
 returns c =
     let line = c.args.line.now in
     let k = c.args.number in
     let first = get_or line 0 0 ∷ [] in
-    let shown = c.split-at.result.0.now in
-    let last = c.split-at.result.1.now in
-    let r = kept_value (FieldTold (letter class) first) 1 c.class_in.result c.in-ok-at-column.field-0 c.in-ok-at-column.ensures c.class_in.ensures in
-    let s = number_right k k shown c.in-ok-at-column-2.field-0 (kept_value (NumberTold k k shown) 2 c.running-in.result c.in-ok-at-column-2.field-0 c.in-ok-at-column-2.ensures c.running-in.ensures) in
+    let shown = c.split_at.result.0.now in
+    let last = c.split_at.result.1.now in
+    let r = kept_value (FieldTold (letter class) first) 1 c.class_in.result c.in_ok-at_column.field-0 c.in_ok-at_column.ensures c.class_in.ensures in
+    let s = number_right k k shown c.in_ok-at_column-2.field-0 (kept_value (NumberTold k k shown) 2 c.running_in.result c.in_ok-at_column-2.field-0 c.in_ok-at_column-2.ensures c.running_in.ensures) in
     let a = letter_rest line (omega (arith, c.requires)) in
-    let b : Split 5 _ shown last = record { front = c.split-at.ensures.front; back = c.split-at.ensures.back } in
+    let b : Split 5 _ shown last = record { front = c.split_at.ensures.front; back = c.split_at.ensures.back } in
     let some : 0 < length last = omega (arith, c.requires, length_rest a, length_rest b) in
-    told_last _ line 7 (letter (10 ∷ [])) (get_or last 0 0 ∷ []) c.newline-in.result c.at-column-3.result c.at-column-3.ensures c.newline-in.ensures
+    told_last _ line 7 (letter (10 ∷ [])) (get_or last 0 0 ∷ []) c.newline_in.result c.at_column-3.result c.at_column-3.ensures c.newline_in.ensures
     (line_right k a b some r s)
     (end_wrong k a b some r s)

@@ -5,14 +5,14 @@ use Rattle.page.specs.Readers.{LineThere, LineChecked}
 use Rattle.page.proofs.Checking.{there_length, checked_line}
 use Rattle.page.proofs.page.check_unit.Goals as goal
 
-pub unit-line-requires : goal.unit-line-requires
-unit-line-requires c = there_length c.args.bytes.now c.unit-start.result 87 _ c.in-ok-line.ensures
+pub unit_line-requires : goal.unit_line-requires
+unit_line-requires c = there_length c.args.bytes.now c.unit_start.result 87 _ c.in_ok-line.ensures
 
 pub returns : goal.returns
 returns c =
     let bytes = c.args.bytes.now in
     let l = c.args.materials in
     let k = c.args.number in
-    let part = c.in-ok-line.line.now in
-    subst (LineChecked bytes l (unit k)) (sym c.on-line.ensures)
-    (checked_line bytes l (unit k) part c.unit_line.result (subst (λ s. LineThere bytes s 87 part) c.unit-start.ensures c.in-ok-line.ensures) c.unit_line.ensures)
+    let part = c.in_ok-line.line.now in
+    subst (LineChecked bytes l (unit k)) (sym c.on_line.ensures)
+    (checked_line bytes l (unit k) part c.unit_line.result (subst (λ s. LineThere bytes s 87 part) c.unit_start.ensures c.in_ok-line.ensures) c.unit_line.ensures)

@@ -16,8 +16,8 @@ returns c =
         page = λ m ok e.
             let some : SomePage bytes = (material_count m, unit_count m, record { meaning = m; acceptable = ok; materials = refl; units = refl; written = e }) in
             let read = opened_page bytes m ok e in
-            (ap (λ o. meaning_of o bytes) (c.is-page-open.ensures.page.1 some) ∙ read.0, read.1);
-        refused = λ line column fault. ap (λ o. meaning_of o bytes) (c.is-page-open.ensures.refused line column fault);
+            (ap (λ o. meaning_of o bytes) (c.is_page-open.ensures.page.1 some) ∙ read.0, read.1);
+        refused = λ line column fault. ap (λ o. meaning_of o bytes) (c.is_page-open.ensures.refused line column fault);
       };
-      shut = c.is-page-open.ensures.refused;
+      shut = c.is_page-open.ensures.refused;
     }

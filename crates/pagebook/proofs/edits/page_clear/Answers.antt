@@ -13,8 +13,8 @@ pub returns : goal.returns
 returns c =
     let bytes = c.args.bytes.now in
     let k = c.args.unit in
-    let line = c.in-ok-line.line in
-    let w = withheld_unit_at c.args.«open» bytes k line c.in-ok-line.ensures.line in
-    let o = refit_owed c.args.«open» (clear_edit k) bytes c.withheld_line.new.bytes c.put-unit.new.bytes k line free w.at c.withheld_line.ensures.same
-    (free_writable line.materials) c.put-unit.ensures (return_passes (meaning_of c.args.«open» bytes) k w.test) refl in
+    let line = c.in_ok-line.line in
+    let w = withheld_unit_at c.args.«open» bytes k line c.in_ok-line.ensures.line in
+    let o = refit_owed c.args.«open» (clear_edit k) bytes c.withheld_line.new.bytes c.put_unit.new.bytes k line free w.at c.withheld_line.ensures.same
+    (free_writable line.materials) c.put_unit.ensures (return_passes (meaning_of c.args.«open» bytes) k w.test) refl in
     record { told = o.told; kept = o.kept; shut = o.shut }

@@ -13,8 +13,8 @@ returns c =
     let bytes = c.args.bytes.now in
     let k = c.args.unit in
     let m = meaning_of c.args.«open» bytes in
-    let line = c.in-ok-line.line in
-    let w = withheld_unit_at c.args.«open» bytes k line c.in-ok-line.ensures.line in
+    let line = c.in_ok-line.line in
+    let w = withheld_unit_at c.args.«open» bytes k line c.in_ok-line.ensures.line in
     let o = letter_owed 87 83 letter_back c.args.«open» (show_edit k) bytes c.withheld_line.new.bytes k line w.at c.withheld_line.ensures.same w.letter
     (return_passes m k w.test) (λ f e. ap (λ s. with_unit m k (shown_state s)) e) in
     record { told = o.told; kept = o.kept; shut = o.shut }

@@ -12,8 +12,8 @@ returns-in-Some c =
     let read = ap (λ (b : List ℕ). get_or b line.start 0) told.same in
     record { line = withheld_found c.args.«open» bytes c.args.unit line at (sym read ∙ c.if-bytes-line-eq-WITHHELD.true); whole = told.whole; same = told.same }
 
-pub returns-in-default : goal.returns-in-default
-returns-in-default c =
+pub returns-in_default : goal.returns-in_default
+returns-in_default c =
     let bytes = c.args.bytes.now in
     let line = c.in-Some.line in
     let told = c.in-Some.ensures in

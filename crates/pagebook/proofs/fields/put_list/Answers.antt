@@ -1,5 +1,5 @@
 -- Blank fields are those of no number, each turn adds a number to them, and in the end they hold the whole list.
-use Rattle.std.proofs.Common.{◌≡◌, ℕ, ◌+◌, ◌-◌, ◌*◌, ◌<◌, ◌≤◌, List, length, get_or, take, drop, replicate, sym, refl, ap, ◌∙◌, arith}
+use Rattle.std.proofs.Common.{◌≡◌, ℕ, ◌+◌, ◌-◌, ◌*◌, ◌<◌, ◌≤◌, List, length, get_or, take, drop, replicate, sym, ap, ◌∙◌, arith}
 use borrow.Rule.Slice.PartMut.{put_mid}
 use Rattle.std.specs.List.{AllByRecursion as All}
 use Rattle.std.proofs.ByRecursion.{All-from_get_or}
@@ -38,9 +38,9 @@ loop-place-preserved c =
     let i = c.loop-place.place in
     let e = filled start bytes c.fill.new.self c.requires.within (c.fill.ensures.after (λ y same. same)) in
     let long : length blank ≡ length bytes = ap length e ∙ length_over start (blanks 40) bytes c.requires.within in
-    c.put-number.ensures
+    c.put_number.ensures
     ∙ (ap (over (start + 5 * i) (column 5 (get_or xs i 0))) c.loop-place.invariant
-    ∙ list_step start xs blank (omega (arith, c.requires.within)) c.requires.few (small xs (λ i. omega (arith, c.type-inv.list i))) i c.loop-place-test.true)
+    ∙ list_step start xs blank (omega (arith, c.requires.within)) c.requires.few (small xs (λ i. omega (arith, c.type_inv.list i))) i c.loop-place-test.true)
 
 pub returns : goal.returns
 returns c =
@@ -51,4 +51,4 @@ returns c =
     let e = filled start bytes c.fill.new.self c.requires.within (c.fill.ensures.after (λ y same. same)) in
     c.loop-place.invariant
     ∙ (ap (λ (ys : List ℕ). over start (list_bytes ys) blank) (take_all c.loop-place.place xs c.loop-place-test.false)
-    ∙ (ap (over start (list_bytes xs)) e ∙ list_over_blanks start xs bytes c.requires.within c.requires.few (small xs (λ i. omega (arith, c.type-inv.list i)))))
+    ∙ (ap (over start (list_bytes xs)) e ∙ list_over_blanks start xs bytes c.requires.within c.requires.few (small xs (λ i. omega (arith, c.type_inv.list i)))))

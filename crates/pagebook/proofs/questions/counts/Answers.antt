@@ -9,7 +9,7 @@ pub returns-then-open : goal.returns-then-open
 returns-then-open c =
     let bytes = c.args.bytes.now in
     record {
-      materials = c.counts-shown.ensures.materials ∙ sym (ap (λ o. material_count (meaning_of o bytes)) c.if-open.true ∙ count_materials bytes);
-      units = c.counts-shown.ensures.units ∙ sym (ap (λ o. unit_count (meaning_of o bytes)) c.if-open.true ∙ count_units bytes);
+      materials = c.counts_shown.ensures.materials ∙ sym (ap (λ o. material_count (meaning_of o bytes)) c.if-open.true ∙ count_materials bytes);
+      units = c.counts_shown.ensures.units ∙ sym (ap (λ o. unit_count (meaning_of o bytes)) c.if-open.true ∙ count_units bytes);
       same = refl;
     }

@@ -7,23 +7,23 @@ use Rattle.pagebook.proofs.Answering.{inside_parts}
 use Rattle.pagebook.proofs.Entries.{entry_shown}
 use Rattle.pagebook.proofs.questions.list_entry.Goals as goal
 
-pub number-at-requires : goal.number-at-requires
-number-at-requires c =
-    let within = inside_parts c.args.place c.list-length.result (sym c.if-not-within.ensures) in
-    let entry = entry_shown c.args.bytes.now c.args.highest c.args.start (c.args.place - 1) (omega (arith, c.list-length.ensures)) in
+pub number_at-requires : goal.number_at-requires
+number_at-requires c =
+    let within = inside_parts c.args.place c.list_length.result (sym c.if-not-within.ensures) in
+    let entry = entry_shown c.args.bytes.now c.args.highest c.args.start (c.args.place - 1) (omega (arith, c.list_length.ensures)) in
     omega (arith, entry.0)
 
-pub overflow-cast-result : goal.overflow-cast-result
-overflow-cast-result c =
-    let within = inside_parts c.args.place c.list-length.result (sym c.if-not-within.ensures) in
-    let entry = entry_shown c.args.bytes.now c.args.highest c.args.start (c.args.place - 1) (omega (arith, c.list-length.ensures)) in
+pub overflow_cast-result : goal.overflow_cast-result
+overflow_cast-result c =
+    let within = inside_parts c.args.place c.list_length.result (sym c.if-not-within.ensures) in
+    let entry = entry_shown c.args.bytes.now c.args.highest c.args.start (c.args.place - 1) (omega (arith, c.list_length.ensures)) in
     omega (arith, entry.2)
 
 pub returns : goal.returns
 returns c =
     let list = list_from c.args.bytes.now c.args.highest c.args.start in
     let place = c.args.place in
-    let within : inside place (length list) ≡ true = sym (c.if-not-within.ensures ∙ ap (inside place) c.list-length.ensures) in
+    let within : inside place (length list) ≡ true = sym (c.if-not-within.ensures ∙ ap (inside place) c.list_length.ensures) in
     let parts = inside_parts place (length list) within in
     let entry = entry_shown c.args.bytes.now c.args.highest c.args.start (place - 1) (omega arith) in
-    ap Some (c.number-at.ensures ∙ sym entry.1) ∙ sym (cond-true (inside place (length list)) (Some (get_or list (place - 1) 0)) None within)
+    ap Some (c.number_at.ensures ∙ sym entry.1) ∙ sym (cond-true (inside place (length list)) (Some (get_or list (place - 1) 0)) None within)

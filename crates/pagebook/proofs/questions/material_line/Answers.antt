@@ -16,7 +16,7 @@ returns c =
     let within : inside k count ≡ true = sym (c.if-not-within.ensures ∙ ap (inside k) c.counts-materials.ensures.materials) in
     let there = material_there c.args.«open» bytes k within in
     record {
-      line = ap Some c.material-start.ensures ∙ sym (cond-true (inside k count) (Some (line_start 0 (material k))) None within);
-      whole = omega (arith, there.whole, c.material-start.ensures);
+      line = ap Some c.material_start.ensures ∙ sym (cond-true (inside k count) (Some (line_start 0 (material k))) None within);
+      whole = omega (arith, there.whole, c.material_start.ensures);
       same = c.counts-materials.ensures.same;
     }

@@ -13,8 +13,8 @@ returns-in-Number c =
     let shows = subst (λ w. Shows (take w rest) c.in-Number.number) wide c.in-Number.ensures.tells in
     sym (shown_number (take number_width rest) c.in-Number.number (length_field c.args.bytes.now c.args.start c.requires) shows)
 
-pub returns-in-default : goal.returns-in-default
-returns-in-default c =
+pub returns-in_default : goal.returns-in_default
+returns-in_default c =
     let rest = drop c.args.start c.args.bytes.now in
     let wide : number_width ≡ c.args.start + 5 - c.args.start = omega arith in
-    sym (none_shown (take number_width rest) (length_field c.args.bytes.now c.args.start c.requires) (λ n shows. c.in-default.not-Number n (c.read.ensures.reads_back n (subst (λ w. Shows (take w rest) n) wide shows))))
+    sym (none_shown (take number_width rest) (length_field c.args.bytes.now c.args.start c.requires) (λ n shows. c.in_default.not-Number n (c.read.ensures.reads_back n (subst (λ w. Shows (take w rest) n) wide shows))))

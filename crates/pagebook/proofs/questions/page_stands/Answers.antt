@@ -5,7 +5,7 @@ use Rattle.pagebook.proofs.questions.page_stands.Goals as goal
 
 pub returns : goal.returns
 returns c =
-    let line = c.in-ok-line.line in
+    let line = c.in_ok-line.line in
     let same = c.unit_line.ensures.same in
-    let answer = stands_answer c.args.«open» c.args.bytes.now c.args.unit line c.in-ok-line.ensures.line in
+    let answer = stands_answer c.args.«open» c.args.bytes.now c.args.unit line c.in_ok-line.ensures.line in
     record { answer = ap (λ (bs : List ℕ). Some (eqb (get_or bs line.start 0) 83)) same ∙ sym answer; same = same }

@@ -17,9 +17,9 @@ returns c =
     let within : inside k (unit_count m) ≡ true = sym (c.if-not-within.ensures ∙ ap (inside k) c.counts-materials.ensures.units) in
     let there = unit_there c.args.«open» bytes k within in
     let materials : c.counts-materials.result.0 ≡ material_count m = c.counts-materials.ensures.materials in
-    let start : c.unit-start.result ≡ (line_of m k).start = c.unit-start.ensures ∙ ap (λ l. line_start l (unit k)) materials in
+    let start : c.unit_start.result ≡ (line_of m k).start = c.unit_start.ensures ∙ ap (λ l. line_start l (unit k)) materials in
     record {
-      line = ap Some (same_line c.unit-start.result c.counts-materials.result.0 (line_of m k).start (material_count m) start materials) ∙ sym (cond-true (inside k (unit_count m)) (Some (line_of m k)) None within);
+      line = ap Some (same_line c.unit_start.result c.counts-materials.result.0 (line_of m k).start (material_count m) start materials) ∙ sym (cond-true (inside k (unit_count m)) (Some (line_of m k)) None within);
       whole = omega (arith, there.whole, start);
       same = c.counts-materials.ensures.same;
     }

@@ -4,19 +4,19 @@ use Rattle.std.proofs.lemmas.List.Sums.{count_by-le-length, count_by_more_yes, c
 use Rattle.structure.specs.declared.Mark.TheVariants.{Unasked}
 use Rattle.structure.specs.Answers.{is_drawn}
 use Rattle.sheet.proofs.marks.drawn_among.Goals as goal
-use Rattle.sheet.proofs.marks.drawn_among.Goals.{then-is-drawn, else-is-drawn}
+use Rattle.sheet.proofs.marks.drawn_among.Goals.{then-is_drawn, else-is_drawn}
 
-pub overflow-add-count : goal.overflow-add-count
-overflow-add-count c = omega (arith, count_by-le-length is_drawn (take c.loop-mark.mark-index c.args.marks.now), length-take c.loop-mark.mark-index c.args.marks.now)
+pub overflow_add-count : goal.overflow_add-count
+overflow_add-count c = omega (arith, count_by-le-length is_drawn (take c.loop-mark.mark-index c.args.marks.now), length-take c.loop-mark.mark-index c.args.marks.now)
 
 pub loop-mark-preserved : goal.loop-mark-preserved
 loop-mark-preserved c =
-    elim c.if-is-drawn.branch [
-      | then-is-drawn w ↦
-          let more = count_by_more_yes is_drawn c.args.marks.now c.loop-mark.mark-index Unasked (omega arith) (sym c.is_drawn.ensures ∙ w.if-is-drawn.true) in
+    elim c.if-is_drawn.branch [
+      | then-is_drawn w ↦
+          let more = count_by_more_yes is_drawn c.args.marks.now c.loop-mark.mark-index Unasked (omega arith) (sym c.is_drawn.ensures ∙ w.if-is_drawn.true) in
           w.count-is ∙ (ap (λ n. n + 1) c.loop-mark.invariant ∙ sym more)
-      | else-is-drawn w ↦
-          let same = count_by_more_no is_drawn c.args.marks.now c.loop-mark.mark-index Unasked (omega arith) (sym c.is_drawn.ensures ∙ w.if-is-drawn.false) in
+      | else-is_drawn w ↦
+          let same = count_by_more_no is_drawn c.args.marks.now c.loop-mark.mark-index Unasked (omega arith) (sym c.is_drawn.ensures ∙ w.if-is_drawn.false) in
           w.count-is ∙ (c.loop-mark.invariant ∙ sym same)
     ]
 

@@ -8,6 +8,6 @@ pub returns : goal.returns
 returns c =
     let t = c.args.self.now in
     record {
-      answer = c.row-bought.ensures.answer (units_in (used t.materials.now) t.units.now);
-      same = ap (with_materials t) c.row-bought.ensures.same;
+      answer = c.row_bought.ensures.answer (units_in (used t.materials.now) t.units.now);
+      same = ap (with_materials t) c.row_bought.ensures.same;
     }

@@ -9,8 +9,8 @@ pub returns : goal.returns
 returns c =
     let t = c.args.self.now in
     let ms = materials_in t.materials.now in
-    let told = c.row-input.ensures in
+    let told = c.row_input.ensures in
     record {
-      answer = subst (λ (l : ℕ). c.row-input.result ≡ input_at c.args.unit c.args.place (units_book ms l t.units.now)) c.used-materials.ensures (told.answer ms);
+      answer = subst (λ (l : ℕ). c.row_input.result ≡ input_at c.args.unit c.args.place (units_book ms l t.units.now)) c.used-materials.ensures (told.answer ms);
       same = ap (with_units t) told.same;
     }

@@ -9,8 +9,8 @@ pub returns : goal.returns
 returns c =
     let t = c.args.self.now in
     let ms = materials_in t.materials.now in
-    let told = c.row-input-count.ensures in
+    let told = c.row_input_count.ensures in
     record {
-      answer = subst (λ (l : ℕ). c.row-input-count.result ≡ input_count_at c.args.unit (units_book ms l t.units.now)) c.used-materials.ensures (told.answer ms);
+      answer = subst (λ (l : ℕ). c.row_input_count.result ≡ input_count_at c.args.unit (units_book ms l t.units.now)) c.used-materials.ensures (told.answer ms);
       same = ap (with_units t) told.same;
     }

@@ -9,8 +9,8 @@ pub returns : goal.returns
 returns c =
     let t = c.args.self.now in
     let ms = materials_in t.materials.now in
-    let told = c.row-output.ensures in
+    let told = c.row_output.ensures in
     record {
-      answer = subst (λ (l : ℕ). c.row-output.result ≡ output_at c.args.unit c.args.place (units_book ms l t.units.now)) c.used-materials.ensures (told.answer ms);
+      answer = subst (λ (l : ℕ). c.row_output.result ≡ output_at c.args.unit c.args.place (units_book ms l t.units.now)) c.used-materials.ensures (told.answer ms);
       same = ap (with_units t) told.same;
     }

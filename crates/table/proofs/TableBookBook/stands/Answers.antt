@@ -8,6 +8,6 @@ pub returns : goal.returns
 returns c =
     let t = c.args.self.now in
     record {
-      answer = c.row-stands.ensures.answer (materials_in t.materials.now) (used t.materials.now);
-      same = ap (with_units t) c.row-stands.ensures.same;
+      answer = c.row_stands.ensures.answer (materials_in t.materials.now) (used t.materials.now);
+      same = ap (with_units t) c.row_stands.ensures.same;
     }

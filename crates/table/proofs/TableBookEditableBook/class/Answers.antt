@@ -6,5 +6,5 @@ use Rattle.table.proofs.TableBookEditableBook.class.Goals as goal
 pub returns : goal.returns
 returns c =
     let edit = class_edit c.args.material c.args.wanted c.args.bought in
-    let e = materials_edited c.args.self.now c.row-class.new.rows edit c.row-class.result c.row-class.ensures in
+    let e = materials_edited c.args.self.now c.row_class.new.rows edit c.row_class.result c.row_class.ensures in
     record { told = e.told; held = e.held }

@@ -7,5 +7,5 @@ use Rattle.table.proofs.TableBookEditableBook.clear.Goals as goal
 pub returns : goal.returns
 returns c =
     let t = c.args.self.now in
-    let e = units_edited t c.row-clear.new.rows (clear_edit c.args.unit) c.row-clear.result (c.row-clear.ensures (used t.materials.now)) in
+    let e = units_edited t c.row_clear.new.rows (clear_edit c.args.unit) c.row_clear.result (c.row_clear.ensures (used t.materials.now)) in
     record { told = e.told; held = e.held }

@@ -9,7 +9,7 @@ pub returns : goal.returns
 returns c =
     let t = c.args.self.now in
     let edit = fit_edit c.args.unit (lists_given c.args.lists) in
-    let rows = c.row-fit.new.rows in
-    let done = subst (λ (l : ℕ). UnitsEdited l edit t.units.now rows c.row-fit.result) c.used-materials.ensures c.row-fit.ensures in
-    let e = units_edited t rows edit c.row-fit.result done in
+    let rows = c.row_fit.new.rows in
+    let done = subst (λ (l : ℕ). UnitsEdited l edit t.units.now rows c.row_fit.result) c.used-materials.ensures c.row_fit.ensures in
+    let e = units_edited t rows edit c.row_fit.result done in
     record { told = e.told; held = e.held }

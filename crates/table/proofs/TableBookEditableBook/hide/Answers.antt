@@ -7,5 +7,5 @@ use Rattle.table.proofs.TableBookEditableBook.hide.Goals as goal
 pub returns : goal.returns
 returns c =
     let t = c.args.self.now in
-    let e = units_edited t c.row-hide.new.rows (hide_edit c.args.unit) c.row-hide.result (c.row-hide.ensures (used t.materials.now)) in
+    let e = units_edited t c.row_hide.new.rows (hide_edit c.args.unit) c.row_hide.result (c.row_hide.ensures (used t.materials.now)) in
     record { told = e.told; held = e.held }

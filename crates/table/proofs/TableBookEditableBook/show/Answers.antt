@@ -7,5 +7,5 @@ use Rattle.table.proofs.TableBookEditableBook.show.Goals as goal
 pub returns : goal.returns
 returns c =
     let t = c.args.self.now in
-    let e = units_edited t c.row-show.new.rows (show_edit c.args.unit) c.row-show.result (c.row-show.ensures (used t.materials.now)) in
+    let e = units_edited t c.row_show.new.rows (show_edit c.args.unit) c.row_show.result (c.row_show.ensures (used t.materials.now)) in
     record { told = e.told; held = e.held }

@@ -7,11 +7,11 @@ use Rattle.table.specs.Rows.{row_of}
 use Rattle.table.proofs.Changes.{said_of, withheld_placed, not_withheld, clear_refused, clear_accepted}
 use Rattle.table.proofs.edits.row_clear.Goals as goal
 
-pub returns-in-default : goal.returns-in-default
-returns-in-default c l =
+pub returns-in_default : goal.returns-in_default
+returns-in_default c l =
     let rows = c.args.rows.now in
     let k = c.args.unit in
-    let found = c.in-default.ensures in
+    let found = c.in_default.ensures in
     said_of l (clear_edit k) rows (Err NotWithheld) found.same
     (clear_refused l rows k (λ ms. not_withheld ms l rows k (found.answer ms l)))
 

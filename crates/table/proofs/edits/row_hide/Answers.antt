@@ -4,14 +4,14 @@ use Rattle.book.specs.Edits.{hide_edit}
 use Rattle.table.proofs.Changes.{said_of, hide_outside, hide_refused, hide_accepted}
 use Rattle.table.proofs.edits.row_hide.Goals as goal
 
-pub returns-in-default : goal.returns-in-default
-returns-in-default c l = hide_outside l c.args.rows.now c.args.unit c.in-default.ensures
+pub returns-in_default : goal.returns-in_default
+returns-in_default c l = hide_outside l c.args.rows.now c.args.unit c.in_default.ensures
 
 pub returns-in-Standing : goal.returns-in-Standing
 returns-in-Standing c l =
     let rows = c.args.rows.now in
     let k = c.args.unit in
-    said_of l (hide_edit k) rows (Ok tt) c.set-state.ensures
+    said_of l (hide_edit k) rows (Ok tt) c.set_state.ensures
     (hide_accepted l rows k c.in-Some.place c.in-Some.ensures c.in-Standing.is)
 
 pub returns-in-Free : goal.returns-in-Free

@@ -7,11 +7,11 @@ use Rattle.table.specs.Rows.{row_in, restated}
 use Rattle.table.proofs.Changes.{said_of, withheld_placed, not_withheld, show_refused, show_accepted}
 use Rattle.table.proofs.edits.row_show.Goals as goal
 
-pub returns-in-default : goal.returns-in-default
-returns-in-default c l =
+pub returns-in_default : goal.returns-in_default
+returns-in_default c l =
     let rows = c.args.rows.now in
     let k = c.args.unit in
-    let found = c.in-default.ensures in
+    let found = c.in_default.ensures in
     said_of l (show_edit k) rows (Err NotWithheld) found.same
     (show_refused l rows k (λ ms. not_withheld ms l rows k (found.answer ms l)))
 
@@ -23,5 +23,5 @@ returns c l =
     let found = c.in-Some.ensures in
     let w = withheld_placed [] l rows k i (found.answer [] l) in
     said_of l (show_edit k) rows (Ok tt)
-    (c.set-state.ensures ∙ ap (λ read. set read i (restated (row_in read i) Standing)) found.same)
+    (c.set_state.ensures ∙ ap (λ read. set read i (restated (row_in read i) Standing)) found.same)
     (show_accepted l rows k i w.0 w.1)

@@ -6,13 +6,13 @@ use Rattle.table.proofs.Places.{placed}
 use Rattle.table.proofs.Changes.{withheld_outside, withheld_here, withheld_none}
 use Rattle.table.proofs.edits.withheld_place.Goals as goal
 
-pub returns-in-err-place : goal.returns-in-err-place
-returns-in-err-place c =
+pub returns-in_err-place : goal.returns-in_err-place
+returns-in_err-place c =
     record {
       answer = λ ms l.
-          c.from-residual.ensures
-          ∙ sym (cond-false _ _ _ (withheld_outside l c.args.rows.now c.args.unit c.in-err-place.ensures ms));
-      here = MatchOption-from_none c.from-residual.result _ c.from-residual.ensures;
+          c.from_residual.ensures
+          ∙ sym (cond-false _ _ _ (withheld_outside l c.args.rows.now c.args.unit c.in_err-place.ensures ms));
+      here = MatchOption-from_none c.from_residual.result _ c.from_residual.ensures;
       same = refl;
     }
 
@@ -20,8 +20,8 @@ pub returns-in-Withheld : goal.returns-in-Withheld
 returns-in-Withheld c =
     let rows = c.args.rows.now in
     let k = c.args.unit in
-    let i = c.in-ok-place.place in
-    let h = c.in-ok-place.ensures in
+    let i = c.in_ok-place.place in
+    let h = c.in_ok-place.ensures in
     let p = placed k (length rows) i h in
     record {
       answer = λ ms l. ap Some p.is ∙ sym (cond-true _ _ _ (withheld_here l rows k i h c.in-Withheld.is ms));
@@ -35,7 +35,7 @@ returns-in-Free c =
       answer = λ ms l.
           sym
           (cond-false _ _ _
-          (withheld_none l c.args.rows.now c.args.unit c.in-ok-place.place c.in-ok-place.ensures c.in-Free.is ms));
+          (withheld_none l c.args.rows.now c.args.unit c.in_ok-place.place c.in_ok-place.ensures c.in-Free.is ms));
       here = tt;
       same = refl;
     }

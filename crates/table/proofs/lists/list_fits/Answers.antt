@@ -9,6 +9,6 @@ pub returns-then-list-le-PLACES : goal.returns-then-list-le-PLACES
 returns-then-list-le-PLACES c =
     let xs = c.args.list.now in
     let l = c.args.materials in
-    ap (λ n. eqb n (length xs)) c.front-length.ensures
+    ap (λ n. eqb n (length xs)) c.front_length.ensures
     ∙ climbs_whole 0 l xs
     ∙ sym (ap (λ b. b && climbs 0 l xs) (le-leb (length xs) 8 c.if-list-le-PLACES.true))

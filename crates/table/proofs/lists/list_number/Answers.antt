@@ -6,12 +6,12 @@ use Rattle.table.proofs.Climbs.{list_in_getD}
 use Rattle.table.proofs.Places.{inside_yes}
 use Rattle.table.proofs.lists.list_number.Goals as goal
 
-pub returns-then-place-list-length : goal.returns-then-place-list-length
-returns-then-place-list-length c =
+pub returns-then-place-list_length : goal.returns-then-place-list_length
+returns-then-place-list_length c =
     let entries = c.args.entries.now in
     let place = c.args.place in
     let list = list_in c.args.materials entries in
-    let here : place ≤ length list = omega (arith, c.list-length.ensures) in
+    let here : place ≤ length list = omega (arith, c.list_length.ensures) in
     sym
     (cond-true _ _ _ (inside_yes place (length list) c.if-place-ge1.true here)
     ∙ ap Some (list_in_getD c.args.materials entries (place - 1) c.told-entries (omega arith)))

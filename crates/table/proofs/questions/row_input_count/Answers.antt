@@ -4,25 +4,25 @@ use Rattle.table.specs.Rows.{fitted_in, units_book}
 use Rattle.table.proofs.Seen.{count_told}
 use Rattle.table.proofs.questions.row_input_count.Goals as goal
 
-pub returns-in-err-row : goal.returns-in-err-row
-returns-in-err-row c =
+pub returns-in_err-row : goal.returns-in_err-row
+returns-in_err-row c =
     let l = c.args.materials in
-    let told = c.in-err-row.ensures in
+    let told = c.in_err-row.ensures in
     record {
       answer = λ ms.
           count_told (λ f. f.inputs) c.args.unit (units_book ms l c.args.rows.now) None (told.answer ms l)
-          c.from-residual.result c.from-residual.ensures;
+          c.from_residual.result c.from_residual.ensures;
       same = told.same;
     }
 
 pub returns : goal.returns
 returns c =
     let l = c.args.materials in
-    let f = fitted_in l c.in-ok-row.row in
-    let told = c.in-ok-row.ensures in
+    let f = fitted_in l c.in_ok-row.row in
+    let told = c.in_ok-row.ensures in
     record {
       answer = λ ms.
           count_told (λ f. f.inputs) c.args.unit (units_book ms l c.args.rows.now) (Some f) (told.answer ms l)
-          (Some c.list-length.result) (ap Some c.list-length.ensures);
+          (Some c.list_length.result) (ap Some c.list_length.ensures);
       same = told.same;
     }

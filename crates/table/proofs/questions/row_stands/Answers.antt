@@ -9,17 +9,17 @@ use Rattle.table.proofs.questions.row_stands.Goals as goal
 abbrev told : UnitState → Option Bool
 told s = Some (is_standing s)
 
-pub returns-in-err-place : goal.returns-in-err-place
-returns-in-err-place c =
+pub returns-in_err-place : goal.returns-in_err-place
+returns-in_err-place c =
     record {
-      answer = λ ms l. c.from-residual.ensures ∙ by_absence (state_in l) c.args.rows.now c.args.unit free told c.in-err-place.ensures;
+      answer = λ ms l. c.from_residual.ensures ∙ by_absence (state_in l) c.args.rows.now c.args.unit free told c.in_err-place.ensures;
       same = refl;
     }
 
 pub returns-in-Standing : goal.returns-in-Standing
 returns-in-Standing c =
     record {
-      answer = λ ms l. of_standing l c.args.rows.now c.args.unit _ c.in-ok-place.ensures told c.in-Standing.is;
+      answer = λ ms l. of_standing l c.args.rows.now c.args.unit _ c.in_ok-place.ensures told c.in-Standing.is;
       same = refl;
     }
 
@@ -27,6 +27,6 @@ pub returns-in-Free : goal.returns-in-Free
 returns-in-Free c =
     record {
       answer = λ ms l.
-          of_other l c.args.rows.now c.args.unit _ c.in-ok-place.ensures told (Some false) refl (λ _. refl) c.in-Free.is;
+          of_other l c.args.rows.now c.args.unit _ c.in_ok-place.ensures told (Some false) refl (λ _. refl) c.in-Free.is;
       same = refl;
     }

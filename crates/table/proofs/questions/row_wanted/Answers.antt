@@ -5,11 +5,11 @@ use Rattle.table.specs.Rows.{material_in}
 use Rattle.table.proofs.Seen.{from_row, by_absence}
 use Rattle.table.proofs.questions.row_wanted.Goals as goal
 
-pub returns-in-err-place : goal.returns-in-err-place
-returns-in-err-place c =
+pub returns-in_err-place : goal.returns-in_err-place
+returns-in_err-place c =
     let rows = c.args.rows.now in
     record {
-      answer = λ us. c.from-residual.ensures ∙ by_absence material_in rows c.args.material plain (λ m. Some m.wanted) c.in-err-place.ensures;
+      answer = λ us. c.from_residual.ensures ∙ by_absence material_in rows c.args.material plain (λ m. Some m.wanted) c.in_err-place.ensures;
       same = refl;
     }
 
@@ -17,6 +17,6 @@ pub returns : goal.returns
 returns c =
     let rows = c.args.rows.now in
     record {
-      answer = λ us. from_row material_in rows c.args.material plain (λ m. Some m.wanted) _ _ c.in-ok-place.ensures;
+      answer = λ us. from_row material_in rows c.args.material plain (λ m. Some m.wanted) _ _ c.in_ok-place.ensures;
       same = refl;
     }

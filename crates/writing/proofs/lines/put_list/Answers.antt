@@ -16,7 +16,7 @@ loop-done-preserved g c =
     let told = asked_again (λ b. entry_of (told_list c.args.side c.args.unit (g.B.Book.meaning b)) (k + 1)) c.entry-entry.ensures.answer same in
     let xs = told_list c.args.side c.args.unit (g.B.Book.meaning c.args.book.now) in (
       c.entry-entry.ensures.same ∙ same,
-      put_step 5 k c.loop-done.invariant.1 c.put-field.ensures (ap field_bytes told) (listed_step k xs) (omega arith) (omega arith),
+      put_step 5 k c.loop-done.invariant.1 c.put_field.ensures (ap field_bytes told) (listed_step k xs) (omega arith) (omega arith),
     )
 
 pub returns : goal.returns

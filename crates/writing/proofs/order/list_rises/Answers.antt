@@ -5,7 +5,7 @@ use Rattle.writing.specs.Told.{entry_of, told_list}
 use Rattle.writing.proofs.Answered.{asked_again, few_told}
 use Rattle.writing.proofs.Rising.{rises_past, rises_on, rises_not, rises_end}
 use Rattle.writing.proofs.order.list_rises.Goals as goal
-use Rattle.writing.proofs.order.list_rises.Goals.{in-Some+else-number-last, in-default}
+use Rattle.writing.proofs.order.list_rises.Goals.{in-Some+else-number-last, in_default}
 
 pub returns-then-number-last : goal.returns-then-number-last
 returns-then-number-last g c =
@@ -29,7 +29,7 @@ loop-seen-preserved g c =
       | in-Some+else-number-last w ↦
           rises_on last k xs w.in-Some.number (sym told ∙ w.in-Some.is) w.if-number-last.false
           ∙ ap (λ x. rises x (drop (k + 1) xs)) (sym w.last-is)
-      | in-default w ↦ rises_end last k xs (sym told ∙ w.in-default.is) ∙ ap (λ x. rises x (drop (k + 1) xs)) (sym w.last-is)
+      | in_default w ↦ rises_end last k xs (sym told ∙ w.in_default.is) ∙ ap (λ x. rises x (drop (k + 1) xs)) (sym w.last-is)
     ] in
     (c.entry.ensures.same ∙ same, c.loop-seen.invariant.1 ∙ rest)
 
