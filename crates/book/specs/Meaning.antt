@@ -1,7 +1,7 @@
 -- What a book means: one value, so that books of equal meaning have equal terms.
 -- Materials and units are numbered from 1; number k stands at place k - 1 of its list.
 use Rattle.std.specs.Prelude.{ℕ, ◌≤◌, Bool, List, length}
-use Rattle.std.specs.List.{AllByRecursion as All}
+use Rattle.std.specs.List.{AllByRecursion}
 
 -- a material: whether the dairy wants it, and whether it can be bought
 pub record Material : Type 0 where
@@ -34,7 +34,7 @@ unit_count m = length m.units
 -- a list of materials that a unit of a book with l materials may have: at most eight, each a material of the book
 pub record Listed (l : ℕ) (numbers : List ℕ) : Type 0 where
   pub few : length numbers ≤ 8
-  pub known : All (λ x. (1 ≤ x) × (x ≤ l)) numbers
+  pub known : AllByRecursion (λ x. (1 ≤ x) × (x ≤ l)) numbers
 
 pub record FittedWithin (l : ℕ) (f : Fitted) : Type 0 where
   pub inputs : Listed l f.inputs
@@ -50,4 +50,4 @@ StateWithin l (withheld f) = FittedWithin l f
 pub record WellFormed (m : Meaning) : Type 0 where
   pub few_materials : material_count m ≤ 1024
   pub few_units : unit_count m ≤ 1024
-  pub lists : All (StateWithin (material_count m)) m.units
+  pub lists : AllByRecursion (StateWithin (material_count m)) m.units

@@ -1,6 +1,6 @@
 -- Bytes whose lines are all right, and no more, are a page. Assumes nothing.
 use Rattle.std.proofs.Common.{◌≡◌, ℕ, ◌+◌, ◌≤◌, List, [], ◌++◌, length, drop, sym, ap, ◌∙◌, subst, arith, length-drop, length-take}
-use Rattle.std.specs.List.{AllByRecursion as All}
+use Rattle.std.specs.List.{AllByRecursion}
 use Rattle.std.proofs.lemmas.List.{append-nil, take-append-drop, drop_all}
 use Rattle.std.proofs.ByRecursion.{All-weaker}
 use Rattle.book.specs.Meaning.{Material, UnitState, StateWithin}
@@ -30,14 +30,14 @@ shown_unit bytes l k r =
     (u.state, (u.written, (u.within, u.settled)))
 
 -- bytes that are the lines of counts, of materials and of units, one after another, are the page of the meaning with these
-page_from_lists : (bytes : List ℕ) (l n : ℕ) → Counts bytes l n → (ms : List Material) (us : List UnitState) → length ms ≡ l → length us ≡ n → All (MayStand l) us → bytes ≡ counts_line l n ++ (numbered material_line 1 ms ++ numbered unit_line 1 us) → PageOf bytes l n
+page_from_lists : (bytes : List ℕ) (l n : ℕ) → Counts bytes l n → (ms : List Material) (us : List UnitState) → length ms ≡ l → length us ≡ n → AllByRecursion (MayStand l) us → bytes ≡ counts_line l n ++ (numbered material_line 1 ms ++ numbered unit_line 1 us) → PageOf bytes l n
 page_from_lists bytes l n c ms us el en all e = record {
   meaning = record { materials = ms; units = us };
   acceptable = record {
     well_formed = record {
       few_materials = omega (arith, c.materials.1);
       few_units = omega (arith, c.units.1);
-      lists = subst (λ j. All (StateWithin j) us) (sym el) (All-weaker (MayStand l) (StateWithin l) (λ s p. p.0) us all);
+      lists = subst (λ j. AllByRecursion (StateWithin j) us) (sym el) (All-weaker (MayStand l) (StateWithin l) (λ s p. p.0) us all);
     };
     some_material = omega (arith, c.materials.0);
     few_materials = omega (arith, c.materials.1);

@@ -1,6 +1,6 @@
 -- Each kind of line: its length, what it is where its fields are right, and that its fields are right. Assumes nothing.
 use Rattle.std.proofs.Common.{◌≡◌, ℕ, zero, suc, ◌+◌, ◌<◌, ◌≤◌, Bool, true, false, cond, eqb, List, [], ◌∷◌, ◌++◌, length, get_or, take, drop, sym, refl, ap, ◌∙◌, subst, arith}
-use Rattle.std.specs.List.{AllByRecursion as All}
+use Rattle.std.specs.List.{AllByRecursion}
 use Rattle.std.proofs.ByRecursion.{All-weaker}
 use Rattle.std.proofs.lemmas.List.{length-append, length-take-le, length-drop, take_all, drop-drop, take_at, drop_at}
 use Rattle.book.specs.Meaning.{Material, UnitState, free, standing, withheld, Listed, StateWithin}
@@ -188,7 +188,7 @@ record StateIn (l x : ℕ) (a b : List ℕ) : Type 0 where
 -- where no material may be named, the list is empty
 list_of_none : (last : ℕ) (a : List ℕ) → ListIn 0 last 8 a → a ≡ list_bytes []
 list_of_none last a r = by r.numbers r.known r.written where
-  by : (xs : List ℕ) → All (λ x. (1 ≤ x) × (x ≤ 0)) xs → a ≡ list_bytes xs → a ≡ list_bytes []
+  by : (xs : List ℕ) → AllByRecursion (λ x. (1 ≤ x) × (x ≤ 0)) xs → a ≡ list_bytes xs → a ≡ list_bytes []
   by [] known written = written
   by (x ∷ xs) known written = absurd (omega (arith, known.0.0, known.0.1))
 

@@ -1,6 +1,6 @@
 -- The two lists of a unit's line: eight fields each, which hold a strictly ascending list and blanks after it. Assumes nothing.
 use Rattle.std.proofs.Common.{◌≡◌, ℕ, zero, suc, ◌+◌, ◌-◌, ◌*◌, ◌<◌, ◌≤◌, List, [], ◌∷◌, ◌++◌, map, length, take, drop, Some, None, Option, sym, refl, ap, ◌∙◌, subst, inl, inr, add-one, arith}
-use Rattle.std.specs.List.{range_with_len, AllByRecursion as All}
+use Rattle.std.specs.List.{range_with_len, AllByRecursion}
 use Rattle.std.proofs.lemmas.List.{append_assoc, length-append, length-replicate, length-take-le, length-drop, drop-drop, take_at, drop_at, nil_from_length, replicate-append-replicate}
 use Rattle.columns.specs.Columns.{blanks, column, Shows}
 use Rattle.columns.proofs.Laws.{fits_five, length_column, shows_column, same_shown, shown_not_blank}
@@ -34,7 +34,7 @@ blanks_more c =
     ap blanks e ∙ sym (replicate-append-replicate number_width (number_width * c) 32)
 
 -- c fields are as wide as they should be
-pub length_listed : (c : ℕ) (xs : List ℕ) → length xs ≤ c → All (λ x. x < 100000) xs → length (listed c xs) ≡ number_width * c
+pub length_listed : (c : ℕ) (xs : List ℕ) → length xs ≤ c → AllByRecursion (λ x. x < 100000) xs → length (listed c xs) ≡ number_width * c
 length_listed c [] few small = ap length (listed_none c) ∙ length-replicate (number_width * c) 32
 length_listed zero (x ∷ xs) few small = absurd (omega arith)
 length_listed (suc c) (x ∷ xs) few small =
@@ -42,7 +42,7 @@ length_listed (suc c) (x ∷ xs) few small =
     ∙ (length-append (column number_width x) (listed c xs) ∙ omega (arith, length_column number_width x (fits_five x small.0), length_listed c xs (omega arith) small.1))
 
 -- and so are the eight of a list
-pub length_list_bytes : (xs : List ℕ) → length xs ≤ 8 → All (λ x. x < 100000) xs → length (list_bytes xs) ≡ 40
+pub length_list_bytes : (xs : List ℕ) → length xs ≤ 8 → AllByRecursion (λ x. x < 100000) xs → length (list_bytes xs) ≡ 40
 length_list_bytes xs few small = length_listed 8 xs few small
 
 -- a field of a list after `front`
@@ -76,7 +76,7 @@ column_from_shows part n wide s = s.written ∙ ap (λ w. column w n) wide
 pub record ListIn (highest last c : ℕ) (part : List ℕ) : Type 0 where
   pub numbers : List ℕ
   pub few : length numbers ≤ c
-  pub known : All (λ x. (1 ≤ x) × (x ≤ highest)) numbers
+  pub known : AllByRecursion (λ x. (1 ≤ x) × (x ≤ highest)) numbers
   pub rising : Rising last numbers
   pub written : part ≡ listed c numbers
 
@@ -171,7 +171,7 @@ module _ (highest : ℕ) where
       subst (λ (b : List ℕ). AllRight (chained highest front b (suc c)) b) (sym (blanks_more c)) (chained_more c front (blanks number_width) (blanks (number_width * c)) refl (inl refl) (blanks_right c (Some (blanks number_width))))
 
   -- a list above `last` is right after a field that any number above `last` may follow
-  listed_right : highest < 100000 → (c last : ℕ) (front : Option (List ℕ)) (xs : List ℕ) → ((n : ℕ) → last < n → Follows front n) → length xs ≤ c → All (λ x. (1 ≤ x) × (x ≤ highest)) xs → Rising last xs → AllRight (chained highest front (listed c xs) c) (listed c xs)
+  listed_right : highest < 100000 → (c last : ℕ) (front : Option (List ℕ)) (xs : List ℕ) → ((n : ℕ) → last < n → Follows front n) → length xs ≤ c → AllByRecursion (λ x. (1 ≤ x) × (x ≤ highest)) xs → Rising last xs → AllRight (chained highest front (listed c xs) c) (listed c xs)
   listed_right small c last front [] above few known rising =
       subst (λ (b : List ℕ). AllRight (chained highest front b c) b) (sym (listed_none c)) (blanks_right c front)
   listed_right small zero last front (x ∷ xs) above few known rising = absurd (omega arith)
@@ -183,7 +183,7 @@ module _ (highest : ℕ) where
       subst (λ (b : List ℕ). AllRight (chained highest front b (suc c)) b) (sym (listed_more c x xs)) whole
 
 -- the eight fields of a strictly ascending list keep to their rules
-pub right_from_list : (highest : ℕ) (xs : List ℕ) → highest < 100000 → length xs ≤ 8 → All (λ x. (1 ≤ x) × (x ≤ highest)) xs → Rising 0 xs → AllRight (entry_fields highest (list_bytes xs)) (list_bytes xs)
+pub right_from_list : (highest : ℕ) (xs : List ℕ) → highest < 100000 → length xs ≤ 8 → AllByRecursion (λ x. (1 ≤ x) × (x ≤ highest)) xs → Rising 0 xs → AllRight (entry_fields highest (list_bytes xs)) (list_bytes xs)
 right_from_list highest xs small few known rising =
     subst (λ (fs : List Field). AllRight fs (list_bytes xs)) (sym (entry_chained highest (list_bytes xs)))
     (listed_right highest small 8 0 None xs (λ n h. h) few known rising)

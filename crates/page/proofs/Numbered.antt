@@ -1,6 +1,6 @@
 -- Lines that are numbered one after another, and the bytes where they stand. Assumes nothing.
 use Rattle.std.proofs.Common.{◌≡◌, ℕ, zero, suc, ◌+◌, ◌<◌, ◌≤◌, List, [], ◌∷◌, ◌++◌, length, take, drop, sym, refl, ap, ◌∙◌, subst, inl, inr, add-zero, arith, length-append}
-use Rattle.std.specs.List.{AllByRecursion as All}
+use Rattle.std.specs.List.{AllByRecursion}
 use Rattle.std.proofs.lemmas.List.{append_assoc, take-append-drop, take_at, drop_at, drop-drop}
 use Rattle.std.proofs.lemmas.Bool.{cases_eq}
 use Rattle.page.specs.Layout.{material, unit, line_start}
@@ -38,11 +38,11 @@ numbers_weaker P Q follows k [] ps = tt
 numbers_weaker P Q follows k (x ∷ xs) ps = (follows k x ps.0, numbers_weaker P Q follows (k + 1) xs ps.1)
 
 -- a fact of each that has nothing to do with its number, both ways
-pub numbers_from_all : {X : Type 0} (P : X → Type 0) (k : ℕ) (xs : List X) → All P xs → Numbers (λ i x. P x) k xs
+pub numbers_from_all : {X : Type 0} (P : X → Type 0) (k : ℕ) (xs : List X) → AllByRecursion P xs → Numbers (λ i x. P x) k xs
 numbers_from_all P k [] ps = tt
 numbers_from_all P k (x ∷ xs) ps = (ps.0, numbers_from_all P (k + 1) xs ps.1)
 
-pub all_from_numbers : {X : Type 0} (P : X → Type 0) (k : ℕ) (xs : List X) → Numbers (λ i x. P x) k xs → All P xs
+pub all_from_numbers : {X : Type 0} (P : X → Type 0) (k : ℕ) (xs : List X) → Numbers (λ i x. P x) k xs → AllByRecursion P xs
 all_from_numbers P k [] ps = tt
 all_from_numbers P k (x ∷ xs) ps = (ps.0, all_from_numbers P (k + 1) xs ps.1)
 

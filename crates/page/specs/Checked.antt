@@ -1,6 +1,6 @@
 -- What the check of a page answers.
 use Rattle.std.specs.Prelude.{◌≡◌, ℕ, ◌<◌, ◌≤◌, List, [], ◌∷◌, Ok, Err, Result}
-use Rattle.std.specs.List.{AllByRecursion as All}
+use Rattle.std.specs.List.{AllByRecursion}
 use Rattle.book.specs.declared.PageFault.{PageFault}
 use Rattle.book.specs.Meaning.{UnitState, free, standing, withheld, Meaning, material_count, unit_count, WellFormed}
 use Rattle.page.specs.Layout.{most}
@@ -25,7 +25,7 @@ pub record Acceptable (m : Meaning) : Type 0 where
   pub few_materials : material_count m ≤ most
   pub some_unit : 1 ≤ unit_count m
   pub few_units : unit_count m ≤ most
-  pub settled : All Settled m.units
+  pub settled : AllByRecursion Settled m.units
 
 -- the bytes are the page of an acceptable meaning with l materials and n units
 pub record PageOf (bytes : List ℕ) (l n : ℕ) : Type 0 where

@@ -1,6 +1,6 @@
 -- The list that the fields of a list stand for: how it is read, and what it keeps to. Assumes nothing.
 use Rattle.std.proofs.Common.{◌≡◌, ℕ, zero, suc, ◌+◌, ◌-◌, ◌*◌, ◌<◌, ◌≤◌, List, [], ◌∷◌, ◌++◌, length, get_or, take, drop, refl, ap, ◌∙◌, inl, arith}
-use Rattle.std.specs.List.{AllByRecursion as All}
+use Rattle.std.specs.List.{AllByRecursion}
 use Rattle.std.proofs.lemmas.List.{take_at, drop_at, drop-drop}
 use Rattle.book.specs.Meaning.{Listed}
 use Rattle.book.specs.Climbing.{climbing}
@@ -74,7 +74,7 @@ climbing_blanks (suc c) last l =
     ∙ (ap (climbing last l) (numbers_first (blanks number_width) rest c refl) ∙ climbing_off last l (number_shown (blanks number_width)) (numbers_in rest c) (inl (omega (arith, blank_shown))))
 
 -- a list that was written in c fields is read there
-climbing_listed : (l c last : ℕ) (xs : List ℕ) → l ≤ 512 → length xs ≤ c → All (λ x. (1 ≤ x) × (x ≤ l)) xs → Rising last xs → climbing last l (numbers_in (listed c xs) c) ≡ xs
+climbing_listed : (l c last : ℕ) (xs : List ℕ) → l ≤ 512 → length xs ≤ c → AllByRecursion (λ x. (1 ≤ x) × (x ≤ l)) xs → Rising last xs → climbing last l (numbers_in (listed c xs) c) ≡ xs
 climbing_listed l c last [] small few known rising = ap (λ (bs : List ℕ). climbing last l (numbers_in bs c)) (listed_none c) ∙ climbing_blanks c last l
 climbing_listed l zero last (x ∷ xs) small few known rising = absurd (omega arith)
 climbing_listed l (suc c) last (x ∷ xs) small few known rising =

@@ -1,6 +1,6 @@
 -- What the bytes of a unit's line are while it is written: a letter, then its two lists, number by number. Assumes nothing.
 use Rattle.std.proofs.Common.{◌≡◌, ℕ, ◌+◌, ◌-◌, ◌*◌, ◌<◌, ◌≤◌, List, [], ◌∷◌, ◌++◌, length, get_or, take, drop, set, sym, refl, ap, ◌∙◌, arith}
-use Rattle.std.specs.List.{AllByRecursion as All}
+use Rattle.std.specs.List.{AllByRecursion}
 use Rattle.std.proofs.ByRecursion.{All-get_or, All-take}
 use Rattle.std.proofs.lemmas.List.{append_assoc, append-nil, length-append, length-set, length-take-le, length-drop, length_push, take-append-drop, take_more, drop-drop, drop_all, drop-replicate, set_split}
 use Rattle.book.specs.Meaning.{Fitted}
@@ -44,14 +44,14 @@ number_fields_push (y ∷ ys) x =
     ∙ sym (append_assoc (column number_width y) (number_fields ys) (column number_width x))
 
 -- they take five columns each
-length_fields : (xs : List ℕ) → All (λ x. x < 100000) xs → length (number_fields xs) ≡ 5 * length xs
+length_fields : (xs : List ℕ) → AllByRecursion (λ x. x < 100000) xs → length (number_fields xs) ≡ 5 * length xs
 length_fields [] small = refl
 length_fields (x ∷ xs) small =
     length-append (column number_width x) (number_fields xs)
     ∙ omega (arith, length_column number_width x (fits_five x small.0), length_fields xs small.1)
 
 -- a number written into the first blank field behind a list makes the list longer by that number
-list_push : (xs : List ℕ) (x : ℕ) → All (λ y. y < 100000) xs → x < 100000 → length xs < 8 → over (5 * length xs) (column number_width x) (list_bytes xs) ≡ list_bytes (xs ++ x ∷ [])
+list_push : (xs : List ℕ) (x : ℕ) → AllByRecursion (λ y. y < 100000) xs → x < 100000 → length xs < 8 → over (5 * length xs) (column number_width x) (list_bytes xs) ≡ list_bytes (xs ++ x ∷ [])
 list_push xs x small low room =
     by (5 * (list_fields - length (xs ++ x ∷ []))) (omega (arith, length_push xs x, length_column number_width x (fits_five x low)))
   where
@@ -62,7 +62,7 @@ list_push xs x small low room =
         ∙ (sym (append_assoc (number_fields xs) (column number_width x) (blanks left)) ∙ ap (λ (t : List ℕ). t ++ blanks left) (sym (number_fields_push xs x)))
 
 -- a list that is written number by number into its fields, which begin at a place of the bytes
-module _ (start : ℕ) (xs bytes : List ℕ) (whole : start + 40 ≤ length bytes) (few : length xs ≤ 8) (small : All (λ x. x < 100000) xs) where
+module _ (start : ℕ) (xs bytes : List ℕ) (whole : start + 40 ≤ length bytes) (few : length xs ≤ 8) (small : AllByRecursion (λ x. x < 100000) xs) where
   -- its first numbers take the fields of a list too
   length_front : (i : ℕ) → i ≤ length xs → length (list_bytes (take i xs)) ≡ 40
   length_front i h = length_list_bytes (take i xs) (omega (arith, length-take-le i xs h)) (All-take (λ x. x < 100000) i xs small)

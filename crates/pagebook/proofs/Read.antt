@@ -1,6 +1,6 @@
 -- What is read from the page of a book: that book. Assumes nothing.
 use Rattle.std.proofs.Common.{◌≡◌, ℕ, ◌+◌, ◌<◌, ◌≤◌, Bool, true, false, ◌&&◌, leb, List, [], ◌∷◌, ◌++◌, map, length, take, drop, sym, refl, ap, ◌∙◌, arith, length-append}
-use Rattle.std.specs.List.{range_with_len, AllByRecursion as All}
+use Rattle.std.specs.List.{range_with_len, AllByRecursion}
 use Rattle.std.proofs.ByRecursion.{All-weaker}
 use Rattle.std.proofs.lemmas.List.{append_assoc, append-nil, take_at, drop_at, drop-drop}
 use Rattle.std.proofs.lemmas.Bool.{le-leb, and_from, cond-true}
@@ -93,7 +93,7 @@ pub record Pageable (m : Meaning) : Type 0 where
   pub few_materials : material_count m ≤ 512
   pub some_unit : 1 ≤ unit_count m
   pub few_units : unit_count m ≤ 512
-  pub rising : All ListsRise m.units
+  pub rising : AllByRecursion ListsRise m.units
 
 -- a meaning whose page can be read is one of these
 pub acceptable_pageable : (m : Meaning) → Acceptable m → Pageable m

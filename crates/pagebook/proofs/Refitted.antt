@@ -1,6 +1,6 @@
 -- A unit's line with another letter and other lists: how long it is, what it means, and what it is on a page. Assumes nothing.
 use Rattle.std.proofs.Common.{◌≡◌, ℕ, ◌+◌, ◌≤◌, true, ◌&&◌, ltb, leb, List, [], ◌∷◌, ◌++◌, length, take, drop, sym, refl, ap, ◌∙◌, arith}
-use Rattle.std.specs.List.{AllByRecursion as All}
+use Rattle.std.specs.List.{AllByRecursion}
 use Rattle.std.proofs.ByRecursion.{All-weaker}
 use Rattle.std.proofs.lemmas.List.{length-append, length-take-le, length-drop, take_at, drop_at, drop-drop}
 use Rattle.std.proofs.lemmas.Bool.{and_parts, leb-true, ltb-true}
@@ -113,7 +113,7 @@ module _ (l : ℕ) (s : UnitState) (old : List ℕ) (few : l ≤ 512) (fits : Wr
       ap (λ (u : List ℕ). parts u (drop 86 old)) number ∙ ap (parts (column 5 k)) end
 
 -- a list that climbs names materials, each above the one before
-climbs_known : (last l : ℕ) (xs : List ℕ) → climbs last l xs ≡ true → All (λ x. (1 ≤ x) × (x ≤ l)) xs × Rising last xs
+climbs_known : (last l : ℕ) (xs : List ℕ) → climbs last l xs ≡ true → AllByRecursion (λ x. (1 ≤ x) × (x ≤ l)) xs × Rising last xs
 climbs_known last l [] e = (tt, tt)
 climbs_known last l (x ∷ xs) e =
     let first = and_parts (ltb last x) (leb x l && climbs x l xs) e in

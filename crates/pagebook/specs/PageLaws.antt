@@ -1,7 +1,7 @@
 -- What any bytes mean is well-formed, and the laws of a page book. Assumes nothing.
 use Rattle.std.specs.Prelude.{◌≡◌, ℕ, zero, suc, ◌<◌, ◌≤◌, true, cond, ◌&&◌, ◌⊎◌, List, [], ◌∷◌, length, drop, ◌==◌, nat_le, nat_lt, slice_index, refl}
 use Rattle.std.proofs.Common.{sym, ap, subst, ◌∙◌, inl, inr, arith}
-use Rattle.std.specs.List.{range_with_len, AllByRecursion as All}
+use Rattle.std.specs.List.{range_with_len, AllByRecursion}
 use Rattle.std.proofs.lemmas.List.FromFn.{length-map-range_with_len}
 use Rattle.std.proofs.ByRecursion.{All-map, All-from_get_or}
 use Rattle.std.proofs.lemmas.Bool.{leb-true, lt-ltb, le-ltb, le-leb, lt-leb, and_from, and_left, and_right, and_parts, cond-true, cond-false, cond_both, cases_Bool, cases_lt}
@@ -45,8 +45,8 @@ pub climbing_short : (last highest : ℕ) (xs : List ℕ) → length (climbing l
 climbing_short last highest xs = climbing_by highest (λ last xs ys. length ys ≤ length xs) (λ last xs. omega arith) (λ last x xs ys above below h. omega arith) last xs
 
 -- each is from 1 to the highest
-pub climbing_known : (last highest : ℕ) (xs : List ℕ) → All (λ x. (1 ≤ x) × (x ≤ highest)) (climbing last highest xs)
-climbing_known last highest xs = climbing_by highest (λ last xs ys. All (λ x. (1 ≤ x) × (x ≤ highest)) ys) (λ last xs. tt) (λ last x xs ys above below h. ((omega arith, below), h)) last xs
+pub climbing_known : (last highest : ℕ) (xs : List ℕ) → AllByRecursion (λ x. (1 ≤ x) × (x ≤ highest)) (climbing last highest xs)
+climbing_known last highest xs = climbing_by highest (λ last xs ys. AllByRecursion (λ x. (1 ≤ x) × (x ≤ highest)) ys) (λ last xs. tt) (λ last x xs ys above below h. ((omega arith, below), h)) last xs
 
 -- as many numbers are read as there are fields
 pub length_numbers : (bytes : List ℕ) (c : ℕ) → length (numbers_in bytes c) ≡ c
@@ -117,11 +117,11 @@ pub page_well_formed : (bytes : List ℕ) → WellFormed (of_page bytes)
 page_well_formed bytes =
     let l = materials_on bytes in
     let numbers = range_with_len 1 (units_on bytes) in
-    let each : All (λ k. StateWithin l (unit_on bytes l k)) numbers = All-from_get_or (λ k. StateWithin l (unit_on bytes l k)) numbers 0 (λ i h. unit_within l (line_bytes bytes l (unit (slice_index numbers i)))) in
+    let each : AllByRecursion (λ k. StateWithin l (unit_on bytes l k)) numbers = All-from_get_or (λ k. StateWithin l (unit_on bytes l k)) numbers 0 (λ i h. unit_within l (line_bytes bytes l (unit (slice_index numbers i)))) in
     record {
       few_materials = omega (arith, count_materials bytes, few_materials bytes);
       few_units = omega (arith, count_units bytes, few_units bytes);
-      lists = subst (λ j. All (StateWithin j) (of_page bytes).units) (sym (count_materials bytes)) (All-map (StateWithin l) (unit_on bytes l) numbers each);
+      lists = subst (λ j. AllByRecursion (StateWithin j) (of_page bytes).units) (sym (count_materials bytes)) (All-map (StateWithin l) (unit_on bytes l) numbers each);
     }
 
 -- the empty book is well-formed

@@ -2,7 +2,7 @@
 use Rattle.std.proofs.Common.{◌≡◌, ℕ, ◌≤◌, Bool, true, false, not, ◌&&◌, ltb, leb, List, [], ◌∷◌, ◌++◌, map, length, take, drop, Some, None, Ok, Err, Result, sym, refl, ap, ◌∙◌, subst, arith}
 use Rattle.std.proofs.lemmas.List.{length-map, take_at}
 use Rattle.std.proofs.lemmas.Bool.{ltb-true, leb-true, le-leb, lt-ltb, le-ltb, and_parts, and_from, not-false}
-use Rattle.std.specs.List.{AllByRecursion as All}
+use Rattle.std.specs.List.{AllByRecursion}
 use Rattle.book.specs.declared.Refusal.{Refusal}
 use Rattle.book.specs.declared.Refusal.TheVariants.{OutOfRange, BadList, MemoryTooShort}
 use Rattle.book.specs.Meaning.{UnitState, free, standing, withheld, Meaning, material_count, unit_count, StateWithin, WellFormed}
@@ -35,7 +35,7 @@ settled_from free e = tt
 settled_from (standing f) e = let p = and_parts (rises 0 f.inputs) (rises 0 f.outputs) e in (rising_from 0 f.inputs p.0, rising_from 0 f.outputs p.1)
 settled_from (withheld f) e = tt
 
-all_settled : (ss : List UnitState) → all_rise ss ≡ true → All Settled (map settled ss)
+all_settled : (ss : List UnitState) → all_rise ss ≡ true → AllByRecursion Settled (map settled ss)
 all_settled [] e = tt
 all_settled (s ∷ ss) e = let p = and_parts (lists_rise s) (all_rise ss) e in (settled_from s p.0, all_settled ss p.1)
 
@@ -44,7 +44,7 @@ rise_from free t = refl
 rise_from (standing f) t = and_from (rises 0 f.inputs) (rises 0 f.outputs) (rises_from 0 f.inputs t.0) (rises_from 0 f.outputs t.1)
 rise_from (withheld f) t = refl
 
-all_rise_from : (ss : List UnitState) → All Settled ss → all_rise ss ≡ true
+all_rise_from : (ss : List UnitState) → AllByRecursion Settled ss → all_rise ss ≡ true
 all_rise_from [] t = refl
 all_rise_from (s ∷ ss) t = and_from (lists_rise s) (all_rise ss) (rise_from s t.0) (all_rise_from ss t.1)
 
@@ -54,7 +54,7 @@ within_settled l free w = tt
 within_settled l (standing f) w = w
 within_settled l (withheld f) w = tt
 
-all_within : (l : ℕ) (ss : List UnitState) → All (StateWithin l) ss → All (StateWithin l) (map settled ss)
+all_within : (l : ℕ) (ss : List UnitState) → AllByRecursion (StateWithin l) ss → AllByRecursion (StateWithin l) (map settled ss)
 all_within l [] w = tt
 all_within l (s ∷ ss) w = (within_settled l s w.0, all_within l ss w.1)
 
@@ -64,11 +64,11 @@ settled_same free t = refl
 settled_same (standing f) t = refl
 settled_same (withheld f) t = absurd t
 
-map_same : (ss : List UnitState) → All NotWithheld ss → map settled ss ≡ ss
+map_same : (ss : List UnitState) → AllByRecursion NotWithheld ss → map settled ss ≡ ss
 map_same [] t = refl
 map_same (s ∷ ss) t = ap (λ x. x ∷ map settled ss) (settled_same s t.0) ∙ ap (λ xs. s ∷ xs) (map_same ss t.1)
 
-pub written_same : (m : Meaning) → All NotWithheld m.units → as_written m ≡ m
+pub written_same : (m : Meaning) → AllByRecursion NotWithheld m.units → as_written m ≡ m
 written_same m t = let mk : List UnitState → Meaning = λ us. record { materials = m.materials; units = us } in ap mk (map_same m.units t)
 
 not_withheld : (s : UnitState) → Settled s → NotWithheld s
@@ -76,7 +76,7 @@ not_withheld free t = tt
 not_withheld (standing f) t = tt
 not_withheld (withheld f) t = t
 
-pub all_not_withheld : (ss : List UnitState) → All Settled ss → All NotWithheld ss
+pub all_not_withheld : (ss : List UnitState) → AllByRecursion Settled ss → AllByRecursion NotWithheld ss
 all_not_withheld [] t = tt
 all_not_withheld (s ∷ ss) t = (not_withheld s t.0, all_not_withheld ss t.1)
 

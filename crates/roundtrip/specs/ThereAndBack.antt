@@ -1,6 +1,6 @@
 -- From a page to a book and back, and from a book to a page and back.
 use Rattle.std.specs.Prelude.{◌≡◌, ℕ, ◌≤◌, List, ◌++◌, map, length, take, drop, Ok, Err, Result}
-use Rattle.std.specs.List.{AllByRecursion as All}
+use Rattle.std.specs.List.{AllByRecursion}
 use Rattle.book.specs.declared.Refusal.{Refusal}
 use Rattle.book.specs.declared.Refusal.TheVariants.{OutOfRange}
 use Rattle.book.specs.Meaning.{UnitState, free, standing, withheld, Meaning}
@@ -30,7 +30,7 @@ NotWithheld (withheld f) = ⊥
 -- numbers free; a book with nothing withheld is there again
 pub record ReadsBack (m : Meaning) (memory : List ℕ) (size : ℕ) : Type 0 where
   pub as_written : (again : Meaning) → Opened (take size memory) again → again ≡ as_written m
-  pub same_book : All NotWithheld m.units → (again : Meaning) → Opened (take size memory) again → again ≡ m
+  pub same_book : AllByRecursion NotWithheld m.units → (again : Meaning) → Opened (take size memory) again → again ≡ m
 
 -- the book with every standing unit withheld
 abbrev pub all_hidden : Meaning → Meaning

@@ -1,6 +1,6 @@
 -- Tests over the numbers below a bound, over the entries of a list and over the units of a set, each with what it decides.
 use Rattle.std.proofs.Common.{◌≡◌, ℕ, zero, suc, ◌<◌, ◌≤◌, Bool, true, false, ◌&&◌, ◌||◌, eqb, leb, ◌⊎◌, List, [], ◌∷◌, Decides, sym, refl, subst, inl, inr, ⊎_elim, arith}
-use Rattle.std.specs.List.{AllByRecursion as All}
+use Rattle.std.specs.List.{AllByRecursion}
 use Rattle.std.proofs.lemmas.Bool.{cases_Bool, or_cases, or_left, or_right, eqb-true, eq-eqb, leb-true, le-leb, false≢true}
 use Rattle.std.proofs.lemmas.Bool.Decides.{Decides-and, Decides-like, Decides-below_and, Decides-below_or, not_from_Decides}
 use Rattle.std.proofs.ByRecursion.{Decides-by_and}
@@ -43,7 +43,7 @@ names_first : (y : ℕ) (ys : List ℕ) → names y (y ∷ ys) ≡ true
 names_first y ys = or_left (eqb y y) (names y ys) (eq-eqb y y refl)
 
 -- what holds of each entry holds of what the list names, and the other way round
-pub all_named : (P : ℕ → Type 0) (xs : List ℕ) → All P xs → (x : ℕ) → names x xs ≡ true → P x
+pub all_named : (P : ℕ → Type 0) (xs : List ℕ) → AllByRecursion P xs → (x : ℕ) → names x xs ≡ true → P x
 all_named P [] a x e = absurd (false≢true e)
 all_named P (y ∷ ys) a x e =
     ⊎_elim
@@ -51,7 +51,7 @@ all_named P (y ∷ ys) a x e =
     (λ (i : names x ys ≡ true). all_named P ys a.1 x i)
     (or_cases (eqb x y) (names x ys) e)
 
-named_all : (P : ℕ → Type 0) (xs : List ℕ) → ((x : ℕ) → names x xs ≡ true → P x) → All P xs
+named_all : (P : ℕ → Type 0) (xs : List ℕ) → ((x : ℕ) → names x xs ≡ true → P x) → AllByRecursion P xs
 named_all P [] f = tt
 named_all P (y ∷ ys) f = (f y (names_first y ys), named_all P ys (λ x i. f x (or_right (eqb x y) (names x ys) i)))
 
@@ -63,7 +63,7 @@ module _ (test : Numbers) (P : ℕ → Type 0) (tells : (x : ℕ) → Decides (t
   pub is_each_below : (n : ℕ) → Decides (each_below test n) ((x : ℕ) → x < n → P x)
   is_each_below = Decides-below_and test P (each_below test) tells refl (λ _. refl)
 
-  pub is_all : (xs : List ℕ) → Decides (each_entry test xs) (All P xs)
+  pub is_all : (xs : List ℕ) → Decides (each_entry test xs) (AllByRecursion P xs)
   is_all = Decides-by_and test P (each_entry test) tells refl (λ _ _. refl)
 
   pub is_each_entry : (xs : List ℕ) → Decides (each_entry test xs) ((x : ℕ) → names x xs ≡ true → P x)

@@ -1,6 +1,6 @@
 -- A farm is a book where a test says so, and what a draw over it answers is then computed.
 use Rattle.std.proofs.Common.{◌≡◌, ℕ, ◌≤◌, Bool, true, ◌&&◌, leb, List, [], ◌∷◌, length}
-use Rattle.std.specs.List.{AllByRecursion as All}
+use Rattle.std.specs.List.{AllByRecursion}
 use Rattle.std.proofs.lemmas.Bool.{and_parts, leb-true}
 use Rattle.book.specs.Meaning.{Fitted, UnitState, free, standing, withheld, Meaning, material_count, unit_count, Listed, FittedWithin, StateWithin, WellFormed}
 use Rattle.book.specs.Declined.{inside}
@@ -44,7 +44,7 @@ state_within l free e = tt
 state_within l (standing f) e = unit_within l f e
 state_within l (withheld f) e = unit_within l f e
 
-states_within : (l : ℕ) (ss : List UnitState) → states_fit l ss ≡ true → All (StateWithin l) ss
+states_within : (l : ℕ) (ss : List UnitState) → states_fit l ss ≡ true → AllByRecursion (StateWithin l) ss
 states_within l [] e = tt
 states_within l (s ∷ ss) e = let (first, rest) = and_parts (state_fits l s) (states_fit l ss) e in (state_within l s first, states_within l ss rest)
 

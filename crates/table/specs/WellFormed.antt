@@ -2,7 +2,7 @@
 use Rattle.std.specs.Prelude.{◌≡◌, ℕ, ◌≤◌, ◌&&◌, List, [], ◌∷◌, map, length, take, nat_le, nat_lt}
 use Rattle.std.proofs.Common.{sym, subst, arith, length-take}
 use Rattle.std.proofs.lemmas.List.{length-map}
-use Rattle.std.specs.List.{AllByRecursion as All}
+use Rattle.std.specs.List.{AllByRecursion}
 use Rattle.std.proofs.ByRecursion.{All-map}
 use Rattle.std.proofs.lemmas.Bool.{cond_both, and_parts, ltb-true, leb-true}
 use Rattle.book.specs.Meaning.{Fitted, StateWithin, Listed, FittedWithin, WellFormed}
@@ -22,10 +22,10 @@ climbing_short last highest (x ∷ xs) =
     (λ _. omega arith)
 
 -- its numbers are above 0 and at most the highest
-climbing_known : (last highest : ℕ) (xs : List ℕ) → All (λ x. (1 ≤ x) × (x ≤ highest)) (climbing last highest xs)
+climbing_known : (last highest : ℕ) (xs : List ℕ) → AllByRecursion (λ x. (1 ≤ x) × (x ≤ highest)) (climbing last highest xs)
 climbing_known last highest [] = tt
 climbing_known last highest (x ∷ xs) =
-    cond_both (nat_lt last x && nat_le x highest) (x ∷ climbing x highest xs) [] (All (λ y. (1 ≤ y) × (y ≤ highest)))
+    cond_both (nat_lt last x && nat_le x highest) (x ∷ climbing x highest xs) [] (AllByRecursion (λ y. (1 ≤ y) × (y ≤ highest)))
     (λ e.
     let p = and_parts (nat_lt last x) (nat_le x highest) e in
     let above = ltb-true last x p.0 in
@@ -49,7 +49,7 @@ state_within : (l : ℕ) (r : UnitRow) → StateWithin l (state_in l r)
 state_within l r =
     in_state_within l r.state _ (record { inputs = list_listed l r.inputs; outputs = list_listed l r.outputs })
 
-all_within : (l : ℕ) (rows : List UnitRow) → All (λ r. StateWithin l (state_in l r)) rows
+all_within : (l : ℕ) (rows : List UnitRow) → AllByRecursion (λ r. StateWithin l (state_in l r)) rows
 all_within l [] = tt
 all_within l (r ∷ rows) = (state_within l r, all_within l rows)
 
@@ -68,6 +68,6 @@ of_rows_well_formed ms us = record {
   few_materials = omega (arith, count_materials ms);
   few_units = omega (arith, count_units (used ms) us);
   lists =
-      subst (λ l. All (StateWithin l) (units_in (used ms) us)) (sym (count_materials ms))
+      subst (λ l. AllByRecursion (StateWithin l) (units_in (used ms) us)) (sym (count_materials ms))
       (All-map (StateWithin (used ms)) (state_in (used ms)) (take most_rows us) (all_within (used ms) (take most_rows us)));
 }

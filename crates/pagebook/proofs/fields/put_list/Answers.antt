@@ -1,7 +1,7 @@
 -- Blank fields are those of no number, each turn adds a number to them, and in the end they hold the whole list.
 use Rattle.std.proofs.Common.{◌≡◌, ℕ, ◌+◌, ◌-◌, ◌*◌, ◌<◌, ◌≤◌, List, length, get_or, take, drop, replicate, sym, ap, ◌∙◌, arith}
 use borrow.Rule.Slice.PartMut.{put_mid}
-use Rattle.std.specs.List.{AllByRecursion as All}
+use Rattle.std.specs.List.{AllByRecursion}
 use Rattle.std.proofs.ByRecursion.{All-from_get_or}
 use Rattle.std.proofs.lemmas.List.{length-take-le, length-drop, take_all}
 use Rattle.columns.specs.Columns.{blanks, column}
@@ -19,7 +19,7 @@ filled start bytes part whole e =
     ap (λ n. put_mid start n bytes part) forty ∙ (ap (put_mid start 40 bytes) (e ∙ ap blanks wide) ∙ putMid_over start (blanks 40) bytes)
 
 -- numbers of sixteen bits have at most five digits
-small : (xs : List ℕ) → ((i : ℕ) → get_or xs i 0 < 65536) → All (λ x. x < 100000) xs
+small : (xs : List ℕ) → ((i : ℕ) → get_or xs i 0 < 65536) → AllByRecursion (λ x. x < 100000) xs
 small xs each = All-from_get_or (λ x. x < 100000) xs 0 (λ i h. omega (arith, each i))
 
 pub loop-place-init : goal.loop-place-init
