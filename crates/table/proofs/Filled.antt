@@ -21,6 +21,14 @@ drop_used d =
     (λ (many : most_rows ≤ length d). let n : used d ≡ most_rows = omega arith in ap (λ k. drop k d) n)
     (cases_lt (length d) most_rows)
 
+-- the rows that such a loop has left so far: after one turn more, and at its end
+pub fill_step : {X : Type 0} (i : ℕ) (y : X) (now d : List X) → now ≡ replicate i y ++ drop i d → i < length d → set now i y ≡ replicate (i + 1) y ++ drop (i + 1) d
+fill_step i y now d so_far h = ap (λ zs. set zs i y) so_far ∙ fill_more i y d h
+
+pub fill_end : {X : Type 0} (i : ℕ) (y : X) (now d : List X) → now ≡ replicate i y ++ drop i d → i ≡ used d → now ≡ replicate (used d) y ++ drop most_rows d
+fill_end i y now d so_far all =
+    so_far ∙ ap (λ n. replicate n y ++ drop n d) all ∙ ap (λ rest. replicate (used d) y ++ rest) (drop_used d)
+
 -- a loop that writes the numbers of xs over n zeros, one number on
 pub pad_more : (n : ℕ) (xs : List ℕ) (i : ℕ) → i < length xs → i < n → set (take i xs ++ replicate (n - i) 0) i (get_or xs i 0) ≡ take (i + 1) xs ++ replicate (n - (i + 1)) 0
 pad_more n xs i here below =
