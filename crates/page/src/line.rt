@@ -69,8 +69,8 @@ fn field_column(first: u16, before: usize) -> u16
 
 // Reads a list's eight fields, the first of which begins at the column `first`.
 fn list_in(list: &[u8], highest: u16, first: u16) -> Result<(), LineFault>
-    requires list_len { length list.now ≡ 40 }
-    requires first_bound { first + 40 < 2 ^ 16 }
+    requires whole { length list.now ≡ 40 }
+    requires fits { first + 40 < 2 ^ 16 }
     ensures { ListTold first (entry_fields highest list.now) list.now result }
 {
     let mut above = Some(0);

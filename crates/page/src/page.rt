@@ -35,8 +35,8 @@ fn whole_line(bytes: &[u8], start: usize, width: usize, line: u16) -> Result<&[u
 
 // Checks the line of the material with this number, which is the same on a page with any number of materials.
 fn check_material(bytes: &[u8], number: u16) -> Result<(), PageFault>
-    requires le_number { 1 ≤ number }
-    requires number_bound { number ≤ 512 }
+    requires from_one { 1 ≤ number }
+    requires at_most { number ≤ 512 }
     ensures { (l : ℕ) → LineChecked bytes.now l (material number) result }
 {
     let line_number = 1 + number;
@@ -57,9 +57,9 @@ fn check_materials(bytes: &[u8], materials: u16) -> Result<(), PageFault>
 
 // Checks the line of the unit with this number, on a page with this many materials.
 fn check_unit(bytes: &[u8], materials: u16, number: u16) -> Result<(), PageFault>
-    requires materials_bound { materials ≤ 512 }
-    requires le_number { 1 ≤ number }
-    requires number_bound { number ≤ 512 }
+    requires few_materials { materials ≤ 512 }
+    requires from_one { 1 ≤ number }
+    requires at_most { number ≤ 512 }
     ensures { LineChecked bytes.now materials (unit number) result }
 {
     let line_number = 1 + materials + number;
@@ -69,8 +69,8 @@ fn check_unit(bytes: &[u8], materials: u16, number: u16) -> Result<(), PageFault
 
 // Checks the lines of the units, of which there should be this many.
 fn check_units(bytes: &[u8], materials: u16, units: u16) -> Result<(), PageFault>
-    requires materials_bound { materials ≤ 512 }
-    requires units_bound { units ≤ 512 }
+    requires few_materials { materials ≤ 512 }
+    requires few_units { units ≤ 512 }
     ensures { LinesChecked bytes.now materials unit units result }
 {
     for number in 1..=units {
@@ -81,8 +81,8 @@ fn check_units(bytes: &[u8], materials: u16, units: u16) -> Result<(), PageFault
 
 // The fault of bytes that go on after the last line of a page with these counts.
 fn bytes_after(materials: u16, units: u16) -> PageFault
-    requires materials_bound { materials ≤ 512 }
-    requires units_bound { units ≤ 512 }
+    requires few_materials { materials ≤ 512 }
+    requires few_units { units ≤ 512 }
     ensures { result ≡ record { line = materials + units + 2; column = 0 } }
 {
     PageFault {

@@ -10,8 +10,8 @@ abbrev pub over : ℕ → List ℕ → List ℕ → List ℕ
 over p line bytes = take p bytes ++ (line ++ drop (p + length line) bytes)
 
 -- a write to a part of a slice overwrites that part
-pub putMid_over : (p : ℕ) (line bytes : List ℕ) → put_mid p (length line) bytes line ≡ over p line bytes
-putMid_over p line bytes = ap (λ (rest : List ℕ). take p bytes ++ (line ++ rest)) (drop-drop (length line) p bytes)
+pub put_mid_over : (p : ℕ) (line bytes : List ℕ) → put_mid p (length line) bytes line ≡ over p line bytes
+put_mid_over p line bytes = ap (λ (rest : List ℕ). take p bytes ++ (line ++ rest)) (drop-drop (length line) p bytes)
 
 -- a line that lies within the bytes
 module _ (p : ℕ) (line bytes : List ℕ) (whole : p + length line ≤ length bytes) where
@@ -21,11 +21,11 @@ module _ (p : ℕ) (line bytes : List ℕ) (whole : p + length line ≤ length b
 
   -- the bytes before the line are as they were
   pub take_over : (n : ℕ) → n ≤ p → take n (over p line bytes) ≡ take n bytes
-  take_over n h = sym (ap (take n) (putMid_over p line bytes)) ∙ take-put_mid_below p (length line) bytes line n h (omega arith)
+  take_over n h = sym (ap (take n) (put_mid_over p line bytes)) ∙ take-put_mid_below p (length line) bytes line n h (omega arith)
 
   -- and so are those after it
   pub drop_over : (n : ℕ) → p + length line ≤ n → drop n (over p line bytes) ≡ drop n bytes
-  drop_over n h = sym (ap (drop n) (putMid_over p line bytes)) ∙ drop-put_mid p (length line) bytes line n h (omega arith) refl
+  drop_over n h = sym (ap (drop n) (put_mid_over p line bytes)) ∙ drop-put_mid p (length line) bytes line n h (omega arith) refl
 
   -- a part that ends before the line is as it was
   pub part_before : (i w : ℕ) → i + w ≤ p → take w (drop i (over p line bytes)) ≡ take w (drop i bytes)

@@ -31,15 +31,15 @@ module _ (last highest : ℕ) (xs : List ℕ) (i : ℕ) (here : i < length xs) w
       at_drop_more (climbing last highest) xs i 0 here ∙ cond-true _ _ _ (next_yes last highest (get_or xs i 0) above below)
 
 -- a front has the list's own numbers
-climbing_getD : (last highest : ℕ) (xs : List ℕ) (i : ℕ) → i < length (climbing last highest xs) → get_or (climbing last highest xs) i 0 ≡ get_or xs i 0
-climbing_getD last highest [] i = λ h. refl
-climbing_getD last highest (x ∷ xs) zero =
+climbing_get_or : (last highest : ℕ) (xs : List ℕ) (i : ℕ) → i < length (climbing last highest xs) → get_or (climbing last highest xs) i 0 ≡ get_or xs i 0
+climbing_get_or last highest [] i = λ h. refl
+climbing_get_or last highest (x ∷ xs) zero =
     cond_both (next last highest x) (x ∷ climbing x highest xs) [] (λ ys. 0 < length ys → get_or ys 0 0 ≡ x)
     (λ _ _. refl)
     (λ _ h. absurd (omega arith))
-climbing_getD last highest (x ∷ xs) (suc i) =
+climbing_get_or last highest (x ∷ xs) (suc i) =
     cond_both (next last highest x) (x ∷ climbing x highest xs) [] (λ ys. suc i < length ys → get_or ys (suc i) 0 ≡ get_or xs i 0)
-    (λ _ h. climbing_getD x highest xs i (omega arith))
+    (λ _ h. climbing_get_or x highest xs i (omega arith))
     (λ _ h. absurd (omega arith))
 
 -- a list climbs where its front is all of it, and a front then ends with the list, whatever zeros follow
@@ -86,9 +86,9 @@ length_entries xs h = simp (length-append, length-replicate) (omega arith)
 pub list_in_all : (l : ℕ) (entries : List ℕ) → length entries ≡ 8 → list_in l entries ≡ climbing 0 l entries
 list_in_all l entries h = ap (climbing 0 l) (take_all places entries (omega arith))
 
-pub list_in_getD : (l : ℕ) (entries : List ℕ) (i : ℕ) → length entries ≡ 8 → i < length (list_in l entries) → get_or (list_in l entries) i 0 ≡ get_or entries i 0
-list_in_getD l entries i h here =
-    climbing_getD 0 l (take places entries) i here ∙ ap (λ xs. get_or xs i 0) (take_all places entries (omega arith))
+pub list_in_get_or : (l : ℕ) (entries : List ℕ) (i : ℕ) → length entries ≡ 8 → i < length (list_in l entries) → get_or (list_in l entries) i 0 ≡ get_or entries i 0
+list_in_get_or l entries i h here =
+    climbing_get_or 0 l (take places entries) i here ∙ ap (λ xs. get_or xs i 0) (take_all places entries (omega arith))
 
 pub list_in_entries : (l : ℕ) (xs : List ℕ) → fitting l xs ≡ true → list_in l (entries_of xs) ≡ xs
 list_in_entries l xs h =

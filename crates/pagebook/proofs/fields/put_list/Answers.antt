@@ -7,7 +7,7 @@ use Rattle.std.proofs.lemmas.List.{length-take-le, length-drop, take_all}
 use Rattle.columns.specs.Columns.{blanks, column}
 use Rattle.page.specs.Format.{list_bytes}
 use Rattle.pagebook.specs.Writes.{over}
-use Rattle.pagebook.proofs.Overwritten.{length_over, putMid_over}
+use Rattle.pagebook.proofs.Overwritten.{length_over, put_mid_over}
 use Rattle.pagebook.proofs.Filling.{list_step, list_over_blanks, blanks_again}
 use Rattle.pagebook.proofs.fields.put_list.Goals as goal
 
@@ -16,7 +16,7 @@ filled : (start : ℕ) (bytes part : List ℕ) → start + 40 ≤ length bytes �
 filled start bytes part whole e =
     let forty : start + 40 - start ≡ 40 = omega arith in
     let wide : length (take (start + 40 - start) (drop start bytes)) ≡ 40 = ap (λ n. length (take n (drop start bytes))) forty ∙ length-take-le 40 (drop start bytes) (omega (arith, length-drop start bytes)) in
-    ap (λ n. put_mid start n bytes part) forty ∙ (ap (put_mid start 40 bytes) (e ∙ ap blanks wide) ∙ putMid_over start (blanks 40) bytes)
+    ap (λ n. put_mid start n bytes part) forty ∙ (ap (put_mid start 40 bytes) (e ∙ ap blanks wide) ∙ put_mid_over start (blanks 40) bytes)
 
 -- numbers of sixteen bits have at most five digits
 small : (xs : List ℕ) → ((i : ℕ) → get_or xs i 0 < 65536) → AllByRecursion (λ x. x < 100000) xs

@@ -5,7 +5,7 @@ use Rattle.std.proofs.lemmas.List.{length-take-le, length-drop}
 use Rattle.columns.specs.Columns.{column, Wrote}
 use Rattle.columns.proofs.Laws.{fits_five, length_column}
 use Rattle.pagebook.specs.Writes.{over}
-use Rattle.pagebook.proofs.Overwritten.{putMid_over}
+use Rattle.pagebook.proofs.Overwritten.{put_mid_over}
 use Rattle.pagebook.proofs.fields.put_number.Goals as goal
 
 -- the field of five columns at a place, and what the writer says of it where the number has at most five digits
@@ -23,7 +23,7 @@ module _ (start number : ℕ) (bytes after : List ℕ) (whole : start + 5 ≤ le
   over_field : after ≡ column 5 number → put_mid start (start + 5 - start) bytes after ≡ over start (column 5 number) bytes
   over_field e =
       let five : start + 5 - start ≡ length (column 5 number) = omega (arith, length_column 5 number (fits_five number small)) in
-      ap (λ n. put_mid start n bytes after) five ∙ (ap (put_mid start (length (column 5 number)) bytes) e ∙ putMid_over start (column 5 number) bytes)
+      ap (λ n. put_mid start n bytes after) five ∙ (ap (put_mid start (length (column 5 number)) bytes) e ∙ put_mid_over start (column 5 number) bytes)
 
 pub unwrap-requires : goal.unwrap-requires
 unwrap-requires c =
