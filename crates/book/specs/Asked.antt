@@ -1,5 +1,7 @@
 -- What each question answers, as a function of the meaning. A question outside its range is answered by absence.
 use Rattle.std.specs.Prelude.{ℕ, ◌-◌, Bool, false, cond, List, length, Some, None, Option, slice_index, slice_index_or}
+use Rattle.book.specs.declared.books.Side.{Side}
+use Rattle.book.specs.declared.books.Side.TheVariants.{Inputs, Outputs}
 use Rattle.book.specs.Meaning.{Material, Fitted, UnitState, free, standing, withheld, Meaning, material_count, unit_count}
 use Rattle.book.specs.Declined.{inside, state_at, is_standing}
 
@@ -42,14 +44,13 @@ abbrev pub entry_in : (Fitted → List ℕ) → ℕ → Option Fitted → Option
 entry_in side place None = None
 entry_in side place (Some f) = where_inside place (length (side f)) (slice_index (side f) (place - 1))
 
-abbrev pub input_count_at : ℕ → Meaning → Option ℕ
-input_count_at k m = count_in (λ f. f.inputs) (fitted_at k m)
+-- the list on a side: what a unit takes, or what it makes
+abbrev pub list_on : Side → Fitted → List ℕ
+list_on Inputs f = f.inputs
+list_on Outputs f = f.outputs
 
-abbrev pub output_count_at : ℕ → Meaning → Option ℕ
-output_count_at k m = count_in (λ f. f.outputs) (fitted_at k m)
+abbrev pub entry_count_at : ℕ → Side → Meaning → Option ℕ
+entry_count_at k side m = count_in (list_on side) (fitted_at k m)
 
-abbrev pub input_at : ℕ → ℕ → Meaning → Option ℕ
-input_at k place m = entry_in (λ f. f.inputs) place (fitted_at k m)
-
-abbrev pub output_at : ℕ → ℕ → Meaning → Option ℕ
-output_at k place m = entry_in (λ f. f.outputs) place (fitted_at k m)
+abbrev pub entry_at : ℕ → Side → ℕ → Meaning → Option ℕ
+entry_at k side place m = entry_in (list_on side) place (fitted_at k m)

@@ -1,11 +1,55 @@
 // Books as their users see them: one that can be asked, and one that can be edited besides.
 ghost use Rattle.std.specs.Prelude.{◌≡◌};
 ghost use Rattle.book.specs.Meaning.{Meaning, material_count, unit_count};
-ghost use Rattle.book.specs.Asked.{wanted_at, bought_at, stands_at, input_count_at, output_count_at, input_at, output_at};
+ghost use Rattle.book.specs.Asked.{wanted_at, bought_at, stands_at, entry_count_at, entry_at};
 ghost use Rattle.book.specs.Edits.{Edited, lists_given, fit_edit, class_edit, hide_edit, show_edit, clear_edit};
 ghost use Rattle.book.specs.Laws.{Laws, lent_laws};
 
 use crate::Refusal;
+
+// What is known of a material.
+#[derive(Clone, Copy, PartialEq, Eq, Debug)]
+pub struct Class {
+    pub wanted: bool,
+    pub bought: bool,
+}
+
+impl Class {
+    pub const PLAIN: Class = Class {
+        wanted: false,
+        bought: false,
+    };
+
+    pub const WANTED: Class = Class {
+        wanted: true,
+        bought: false,
+    };
+
+    pub const BOUGHT: Class = Class {
+        wanted: false,
+        bought: true,
+    };
+
+    pub const BOTH: Class = Class {
+        wanted: true,
+        bought: true,
+    };
+}
+
+// What is known of a unit number: nothing is fitted there, a unit stands there, or a unit is there and withheld from use.
+#[derive(Clone, Copy, PartialEq, Eq, Debug)]
+pub enum State {
+    Free,
+    Standing,
+    Withheld,
+}
+
+// One of a unit's two lists: what it takes, or what it makes.
+#[derive(Clone, Copy, PartialEq, Eq, Debug)]
+pub enum Side {
+    Inputs,
+    Outputs,
+}
 
 // The lists of a unit that is to be fitted.
 #[derive(Clone, Copy)]
@@ -51,24 +95,14 @@ pub trait Book {
         ensures answer { result ≡ stands_at unit (meaning self.old) }
         ensures same { self.new ≡ self.old };
 
-    // How many inputs a standing unit has.
-    fn input_count(&mut self, unit: u16) -> Option<u16>
-        ensures answer { result ≡ input_count_at unit (meaning self.old) }
+    // How many entries a list of a standing unit has.
+    fn entry_count(&mut self, unit: u16, side: Side) -> Option<u16>
+        ensures answer { result ≡ entry_count_at unit side (meaning self.old) }
         ensures same { self.new ≡ self.old };
 
-    // How many outputs a standing unit has.
-    fn output_count(&mut self, unit: u16) -> Option<u16>
-        ensures answer { result ≡ output_count_at unit (meaning self.old) }
-        ensures same { self.new ≡ self.old };
-
-    // The input at a place of a standing unit's list, from 1.
-    fn input(&mut self, unit: u16, place: u16) -> Option<u16>
-        ensures answer { result ≡ input_at unit place (meaning self.old) }
-        ensures same { self.new ≡ self.old };
-
-    // The output at a place of a standing unit's list, from 1.
-    fn output(&mut self, unit: u16, place: u16) -> Option<u16>
-        ensures answer { result ≡ output_at unit place (meaning self.old) }
+    // The entry at a place, from 1, of a standing unit's list.
+    fn entry(&mut self, unit: u16, side: Side, place: u16) -> Option<u16>
+        ensures answer { result ≡ entry_at unit side place (meaning self.old) }
         ensures same { self.new ≡ self.old };
 }
 
@@ -100,20 +134,12 @@ impl<B: Book> Book for &mut B {
         (**self).stands(unit)
     }
 
-    fn input_count(&mut self, unit: u16) -> Option<u16> {
-        (**self).input_count(unit)
+    fn entry_count(&mut self, unit: u16, side: Side) -> Option<u16> {
+        (**self).entry_count(unit, side)
     }
 
-    fn output_count(&mut self, unit: u16) -> Option<u16> {
-        (**self).output_count(unit)
-    }
-
-    fn input(&mut self, unit: u16, place: u16) -> Option<u16> {
-        (**self).input(unit, place)
-    }
-
-    fn output(&mut self, unit: u16, place: u16) -> Option<u16> {
-        (**self).output(unit, place)
+    fn entry(&mut self, unit: u16, side: Side, place: u16) -> Option<u16> {
+        (**self).entry(unit, side, place)
     }
 }
 
@@ -125,8 +151,8 @@ pub trait EditableBook: Book {
         ensures held { Self.Book.kept self.old self.new };
 
     // Sets whether a material is wanted and whether it is bought.
-    fn class(&mut self, material: u16, wanted: bool, bought: bool) -> Result<(), Refusal>
-        ensures told { Edited Self.Book.meaning (class_edit material wanted bought) self.old self.new result }
+    fn class(&mut self, material: u16, class: Class) -> Result<(), Refusal>
+        ensures told { Edited Self.Book.meaning (class_edit material class.wanted class.bought) self.old self.new result }
         ensures held { Self.Book.kept self.old self.new };
 
     // Withholds a standing unit.
@@ -150,8 +176,8 @@ impl<B: EditableBook> EditableBook for &mut B {
         (**self).fit(unit, lists)
     }
 
-    fn class(&mut self, material: u16, wanted: bool, bought: bool) -> Result<(), Refusal> {
-        (**self).class(material, wanted, bought)
+    fn class(&mut self, material: u16, class: Class) -> Result<(), Refusal> {
+        (**self).class(material, class)
     }
 
     fn hide(&mut self, unit: u16) -> Result<(), Refusal> {

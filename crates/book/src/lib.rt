@@ -1,12 +1,15 @@
 // What a book means, what it can be asked and how it is edited, and why a call is declined.
 #![tactic(auto)]
 
-ghost use Rattle.std.specs.Prelude.{◌≡◌};
+ghost use Rattle.std.specs.Prelude.{◌≡◌, Some, decimal};
 ghost use Rattle.book.specs.Refusals.{told};
 
 mod books;
+mod lists;
 
-pub use books::{Book, EditableBook, Lists};
+pub use books::{Book, Class, EditableBook, Lists, Side, State};
+use std::error::Error;
+use std::fmt;
 
 // Where the first fault of a page is. Lines and columns count from 1; column 0 is a line that the end of the bytes
 // cuts short, or bytes after the last line.
@@ -76,3 +79,15 @@ impl Refusal {
         }
     }
 }
+
+// A refusal is printed as its number.
+impl fmt::Display for Refusal {
+    ghost output = { λ r. Some (decimal (told r).number) };
+
+    fn fmt<W: fmt::Write>(&self, f: &mut fmt::Formatter<W>) -> fmt::Result {
+        let number = self.number();
+        write!(f, "{number}")
+    }
+}
+
+impl Error for Refusal {}
