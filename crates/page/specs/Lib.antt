@@ -4,3 +4,4 @@ pub mod Rules
 pub mod Faults
 pub mod Checked
 pub mod Readers
+pub mod Letters

@@ -3,6 +3,7 @@
 
 mod field;
 pub mod layout;
+pub mod letters;
 mod line;
 mod page;
 
