@@ -1,5 +1,5 @@
 -- What a drawing answers for a book: the refusal, or the marks, the ranks and the counts. The rules leave no choice.
-use Rattle.std.specs.Prelude.{◌≡◌, ℕ, ◌-◌, ◌≤◌, Bool, true, false, cond, ◌⊎◌, ◌↔◌, List, [], ◌∷◌, length, IfOk, Ok, Err, count_by, Result, slice_index, slice_index_or}
+use Rattle.std.specs.Prelude.{◌≡◌, ℕ, ◌-◌, ◌≤◌, Bool, codes, true, false, cond, ◌⊎◌, ◌↔◌, List, [], ◌∷◌, length, IfOk, Ok, Err, count_by, Result, slice_index, slice_index_or}
 use Rattle.std.specs.Option.{unwrap_or}
 use Rattle.book.specs.declared.Refusal.{Refusal}
 use Rattle.book.specs.declared.Refusal.TheVariants.{NothingWanted, NothingBought, WantedAndBought, Impossible}
@@ -22,6 +22,12 @@ abbrev pub is_drawn : Mark → Bool
 is_drawn Unasked = false
 is_drawn Idle = false
 is_drawn Drawn = true
+
+-- the word that a mark is printed as
+abbrev pub word_of : Mark → List ℕ
+word_of Unasked = codes "unasked"
+word_of Idle = codes "idle"
+word_of Drawn = codes "drawn"
 
 -- the mark of number k; a number that has none is unasked
 abbrev pub mark_of : List Mark → ℕ → Mark

@@ -1,8 +1,12 @@
 // The subject itself: solution-structures, the maximal structure, ranks, and what a drawing answers.
 #![tactic(auto)]
 
+ghost use Rattle.std.specs.Prelude.{Some};
+ghost use Rattle.structure.specs.Answers.{word_of};
 ghost use Rattle.structure.specs.Farms.{WorkedFarms};
 ghost use Rattle.structure.specs.Theory.{UnionIsLargest, CollectedSolves, LargestIsMaximal, AnswerIsSettled};
+
+use std::fmt;
 
 // What is known of a unit number or a material after a draw.
 #[derive(Clone, Copy, PartialEq, Eq, Debug)]
@@ -15,37 +19,39 @@ pub enum Mark {
     Drawn,
 }
 
-// The union of all solution-structures is itself one, and the one that holds every other.
-pub fn union_is_largest() -> u8
-    ensures { UnionIsLargest }
-{
-    0
+impl fmt::Display for Mark {
+    ghost output = { λ mark. Some (word_of mark) };
+
+    fn fmt<W: fmt::Write>(&self, f: &mut fmt::Formatter<W>) -> fmt::Result {
+        f.write_str(match self {
+            Mark::Unasked => "unasked",
+            Mark::Idle => "idle",
+            Mark::Drawn => "drawn",
+        })
+    }
 }
+
+// The union of all solution-structures is itself one, and the one that holds every other.
+pub fn union_is_largest()
+    ensures { UnionIsLargest }
+{}
 
 // What leads from a supported set to the wanted materials is a solution-structure.
-pub fn collected_solves() -> u8
+pub fn collected_solves()
     ensures { CollectedSolves }
-{
-    0
-}
+{}
 
 // What leads from the largest supported set to the wanted materials is the maximal structure.
-pub fn largest_is_maximal() -> u8
+pub fn largest_is_maximal()
     ensures { LargestIsMaximal }
-{
-    0
-}
+{}
 
 // The answer of a draw leaves no choice, and says what the names of its promises say.
-pub fn answer_is_settled() -> u8
+pub fn answer_is_settled()
     ensures { AnswerIsSettled }
-{
-    0
-}
+{}
 
 // The rules of a drawing give the results that were worked out by hand for seventeen farms.
-pub fn worked_farms() -> u8
+pub fn worked_farms()
     ensures { WorkedFarms }
-{
-    0
-}
+{}
