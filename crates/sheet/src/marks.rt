@@ -7,38 +7,19 @@ ghost use Rattle.sheet.specs.Sheets.{contents, fresh, whole};
 use crate::{PLACES, Sheet};
 use structure::Mark;
 
-fn is_drawn(mark: Mark) -> bool
-    ensures { result ≡ is_drawn mark }
-{
-    match mark {
-        Mark::Unasked => false,
-        Mark::Idle => false,
-        Mark::Drawn => true,
-    }
-}
-
 // How many of the marks are drawn.
 fn drawn_among(marks: &[Mark; PLACES]) -> u16
     ensures { result ≡ count_by is_drawn marks.now }
 {
-    let mut count = 0;
-    for mark in marks {
-        if is_drawn(*mark) {
-            count += 1;
-        }
-    }
-    count
+    marks.iter().filter(|mark| mark.is_drawn()).count() as u16
 }
 
 // The place of a number from 1 to 1,024.
 fn place_of(number: u16) -> Option<usize>
     ensures { result ≡ where_inside number 1024 (number - 1) }
 {
-    if number >= 1 && number as usize <= PLACES {
-        Some(number as usize - 1)
-    } else {
-        None
-    }
+    let place = usize::from(number).checked_sub(1)?;
+    (place < PLACES).then_some(place)
 }
 
 impl Sheet {

@@ -1,8 +1,8 @@
 // The subject itself: solution-structures, the maximal structure, ranks, and what a drawing answers.
 #![tactic(auto)]
 
-ghost use Rattle.std.specs.Prelude.{Some};
-ghost use Rattle.structure.specs.Answers.{word_of};
+ghost use Rattle.std.specs.Prelude.{◌≡◌, Some};
+ghost use Rattle.structure.specs.Answers.{is_drawn, word_of};
 ghost use Rattle.structure.specs.Farms.{WorkedFarms};
 ghost use Rattle.structure.specs.Theory.{UnionIsLargest, CollectedSolves, LargestIsMaximal, AnswerIsSettled};
 
@@ -17,6 +17,15 @@ pub enum Mark {
     Idle,
     // Some workable plant uses it.
     Drawn,
+}
+
+impl Mark {
+    // Whether some workable plant uses it.
+    pub fn is_drawn(self) -> bool
+        ensures { result ≡ is_drawn self }
+    {
+        self == Mark::Drawn
+    }
 }
 
 impl fmt::Display for Mark {
