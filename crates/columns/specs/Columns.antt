@@ -1,6 +1,7 @@
 -- Number columns: how a number stands in a field of fixed width. Bytes are their codes: 32 is a space.
-use Rattle.std.specs.Prelude.{◌≡◌, ℕ, ◌-◌, ◌<◌, ◌≤◌, List, ◌++◌, length, replicate, Some, None, decimal, Option, ◌≢◌}
+use Rattle.std.specs.Prelude.{◌≡◌, ℕ, ◌-◌, ◌<◌, ◌≤◌, List, ◌++◌, length, replicate, Ok, Err, decimal, Result, ◌≢◌}
 use Rattle.columns.specs.declared.Content.{Content}
+use Rattle.columns.specs.declared.DoesNotFit.{DoesNotFit}
 use Rattle.columns.specs.declared.Content.TheVariants.{Blank, Number, Fault}
 
 -- w spaces: a field of w columns that holds nothing
@@ -29,6 +30,6 @@ Holds bytes Fault = (bytes ≢ blanks (length bytes)) × ((n : ℕ) → Shows by
 
 -- what each answer of the writer says of the memory, which held `before` and holds `after`:
 -- written whole, or, where the memory is no field of that width or the number does not fit, untouched
-abbrev pub Wrote : (width n : ℕ) → (before after : List ℕ) → Option (Unit {0}) → Type 0
-Wrote width n before after (Some _) = (length before ≡ width) × Fits width n × (after ≡ column width n)
-Wrote width n before after None = (length before ≡ width → Fits width n → ⊥) × (after ≡ before)
+abbrev pub Wrote : (width n : ℕ) → (before after : List ℕ) → Result (Unit {0}) DoesNotFit → Type 0
+Wrote width n before after (Ok _) = (length before ≡ width) × Fits width n × (after ≡ column width n)
+Wrote width n before after (Err _) = (length before ≡ width → Fits width n → ⊥) × (after ≡ before)

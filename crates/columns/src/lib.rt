@@ -5,6 +5,9 @@ ghost use Rattle.std.specs.Prelude.{◌≡◌, ℕ, ◌+◌, ◌%◌, ◌<◌, l
 ghost use Rattle.columns.specs.Columns.{column, Fits, Shows, Holds, Wrote};
 ghost use Rattle.columns.specs.Reading.{Next};
 
+use std::error::Error;
+use std::fmt;
+
 // The least number of ten digits: one too many.
 const TOO_LONG: u32 = 1_000_000_000;
 
@@ -54,16 +57,27 @@ fn next(so_far: Content, byte: u8) -> Content
     }
 }
 
-// Writes a number into a field of `width` columns. `None`, and nothing is written, where the memory is no such field or
-// the number does not fit.
-pub fn write(field: &mut [u8], width: usize, number: u32) -> Option<()>
+// The memory is no field of that width, or the number does not fit into one.
+#[derive(Clone, Copy, PartialEq, Eq, Debug)]
+pub struct DoesNotFit;
+
+impl fmt::Display for DoesNotFit {
+    fn fmt<W: fmt::Write>(&self, f: &mut fmt::Formatter<W>) -> fmt::Result {
+        f.write_str("the number does not fit into the field")
+    }
+}
+
+impl Error for DoesNotFit {}
+
+// Writes a number into a field of `width` columns; where it does not fit, nothing is written.
+pub fn write(field: &mut [u8], width: usize, number: u32) -> Result<(), DoesNotFit>
     ensures { Wrote width number field.old field.new result }
 {
     if field.len() != width || !fits(width, number) {
-        return None;
+        return Err(DoesNotFit);
     }
     fill(field, number);
-    Some(())
+    Ok(())
 }
 
 // Whether a number has at most nine digits, and they go into `width` columns.
@@ -77,13 +91,7 @@ fn fits(width: usize, number: u32) -> bool
 fn digits(number: u32) -> usize
     ensures { result ≡ length (decimal number) }
 {
-    let mut count = 1;
-    let mut rest = number;
-    while rest >= 10 {
-        rest /= 10;
-        count += 1;
-    }
-    count
+    number.max(1).ilog10() as usize + 1
 }
 
 // Writes a number that fits into the whole field, the last digit first.
@@ -91,6 +99,7 @@ fn fill(field: &mut [u8], number: u32)
     requires { Fits (length field.old) number }
     ensures { field.new ≡ column (length field.old) number }
 {
+    // By place: the digits come from the right, the last one first.
     let last = field.len() - 1;
     field[last] = digit(number);
     let mut rest = number / 10;

@@ -8,7 +8,8 @@ use book::Refusal;
 // The place so many places on from another, round the end.
 // A sum that goes past the end is not formed, since it may be too large.
 fn round(place: usize, on: usize, end: usize) -> usize
-    requires { (place < end) × (on ≤ end) }
+    requires there { place < end }
+    requires once_round { on ≤ end }
     ensures { result ≡ (place + on) % end }
 {
     if on < end - place {

@@ -1,9 +1,0 @@
--- The digits counted and those of the rest are the number's, and one more, since the rest's last is counted already.
-use Rattle.std.proofs.Common.{◌≡◌, ◌+◌, ◌≤◌, length, decimal}
-use Rattle.columns.proofs.digits.Given as goal
-
-abbrev pub invariant-loop-rest : goal.invariant-loop-rest
-invariant-loop-rest l = (l.rest ≤ l.number) × (l.count + length (decimal l.rest) ≡ length (decimal l.number) + 1)
-
-abbrev pub decreases-loop-rest : goal.decreases-loop-rest
-decreases-loop-rest l = l.rest
