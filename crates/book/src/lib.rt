@@ -6,8 +6,10 @@ ghost use Rattle.book.specs.Refusals.{told};
 
 mod books;
 mod lists;
+mod numbers;
 
 pub use books::{Book, Class, EditableBook, Lists, Side, State};
+pub use numbers::{MOST_ENTRIES, MOST_NUMBERS, place_of};
 use std::error::Error;
 use std::fmt;
 

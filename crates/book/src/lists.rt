@@ -2,10 +2,7 @@
 ghost use Rattle.std.specs.Prelude.{◌≡◌, ◌&&◌};
 ghost use Rattle.book.specs.Declined.{climbs, fitting};
 
-use crate::Lists;
-
-// A unit has at most so many entries in a list.
-const MOST: usize = 8;
+use crate::{Lists, MOST_ENTRIES};
 
 impl Lists<'_> {
     // Whether a unit may be fitted with the lists in a book of so many materials: each has at most eight entries, each entry
@@ -21,7 +18,7 @@ impl Lists<'_> {
 fn is_fitting(list: &[u16], materials: u16) -> bool
     ensures { result ≡ fitting materials list.now }
 {
-    list.len() <= MOST && is_climbing(list, materials)
+    list.len() <= MOST_ENTRIES && is_climbing(list, materials)
 }
 
 // Whether each number is above the one before it, the first above 0, and none above the highest.

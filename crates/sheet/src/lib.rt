@@ -4,12 +4,13 @@
 ghost use Rattle.std.specs.Prelude.{◌≡◌, length, count_by};
 ghost use Rattle.structure.specs.Answers.{is_drawn};
 
+use book::MOST_NUMBERS;
 use structure::Mark;
 
 mod marks;
 
 // How many unit numbers, and how many materials, a sheet has a mark for.
-pub const PLACES: usize = 1024;
+pub const PLACES: usize = MOST_NUMBERS;
 
 // A mark for each unit number and each material, a rank for each unit number, and how many marks are drawn. It is changed
 // by value, or written whole.

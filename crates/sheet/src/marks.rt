@@ -18,8 +18,7 @@ fn drawn_among(marks: &[Mark; PLACES]) -> u16
 fn place_of(number: u16) -> Option<usize>
     ensures { result ≡ where_inside number 1024 (number - 1) }
 {
-    let place = usize::from(number).checked_sub(1)?;
-    (place < PLACES).then_some(place)
+    book::place_of(number, PLACES as u16)
 }
 
 impl Sheet {
