@@ -1,3 +1,4 @@
+pub mod FirstLetter
 pub mod Scan
 pub mod Joins
 pub mod Lists

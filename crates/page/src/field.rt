@@ -4,10 +4,12 @@ ghost use Rattle.page.specs.Readers.{EntryTold, FieldTold, MayStand, NumberTold}
 ghost use Rattle.page.specs.Rules.{letter as one_of};
 
 use crate::layout::MOST;
+use crate::letters::Lettered;
+use book::{Class, State};
 use columns::{Content, read};
 
 // The field does not keep to its rule.
-#[derive(Clone, Copy)]
+#[derive(Clone, Copy, PartialEq, Eq, Debug)]
 pub struct FieldFault;
 
 // The number that the field shows, where it is one from `low` to `high`.
@@ -61,14 +63,11 @@ pub(crate) fn entry_in(
     }
 }
 
-// Whether a material's letter is one: '-' plain, 'P' wanted, 'R' bought, 'B' both.
-pub(crate) fn class_in(letter: u8) -> Result<(), FieldFault>
+// What a material is, by its letter: '-' plain, 'P' wanted, 'R' bought, 'B' both.
+pub(crate) fn class_in(letter: u8) -> Result<Class, FieldFault>
     ensures { FieldTold (one_of (45 ∷ (80 ∷ (82 ∷ (66 ∷ []))))) (letter ∷ []) result }
 {
-    match letter {
-        b'-' | b'P' | b'R' | b'B' => Ok(()),
-        _ => Err(FieldFault),
-    }
+    Class::of_letter(letter).ok_or(FieldFault)
 }
 
 // The highest material that a unit's line may name, by its letter: none where the number is free ('-'), and any of the
@@ -77,10 +76,10 @@ pub(crate) fn highest_named(letter: u8, materials: u16) -> Result<u16, FieldFaul
     ensures told { FieldTold (one_of (45 ∷ (83 ∷ []))) (letter ∷ []) result }
     ensures highest { IfOk result (λ h. h ≡ (if nat_eq letter 45 then 0 else materials)) }
 {
-    match letter {
-        b'-' => Ok(0),
-        b'S' => Ok(materials),
-        _ => Err(FieldFault),
+    match State::of_letter(letter) {
+        Some(State::Free) => Ok(0),
+        Some(State::Standing) => Ok(materials),
+        Some(State::Withheld) | None => Err(FieldFault),
     }
 }
 

@@ -14,7 +14,7 @@ use crate::layout::{
 };
 
 // The column, counted from 1, at which the first field begins that does not keep to its rule.
-#[derive(Clone, Copy)]
+#[derive(Clone, Copy, PartialEq, Eq, Debug)]
 pub struct LineFault {
     pub column: u16,
 }

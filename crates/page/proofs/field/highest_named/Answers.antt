@@ -1,10 +1,7 @@
--- The letter `S` is the second of the choice, and is not `-`.
-use Rattle.std.proofs.Common.{[], ◌∷◌, sym, ap, arith}
-use Rattle.std.proofs.lemmas.Bool.{cond-false, ne_eqb}
+-- A letter that is read as no state is neither of the two.
+use Rattle.std.proofs.Common.{rules}
+use Rattle.page.proofs.FirstLetter.{no_state}
 use Rattle.page.proofs.field.highest_named.Goals as goal
 
-pub returns-in-83 : goal.returns-in-83
-returns-in-83 c = record {
-  told = (1, omega arith, ap (λ b. b ∷ []) c.in-83.is);
-  highest = sym (cond-false _ _ _ (ne_eqb c.args.letter 45 (λ e. omega (arith, c.in-83.is))));
-}
+pub returns-in-Some-Withheld-2-clause-told : goal.returns-in-Some-Withheld-2-clause-told
+returns-in-Some-Withheld-2-clause-told c = search (rules, no_state)
