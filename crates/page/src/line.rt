@@ -23,10 +23,7 @@ pub struct LineFault {
 fn at_column<T>(column: u16, read: Result<T, FieldFault>) -> Result<T, LineFault>
     ensures { result ≡ at_column column read }
 {
-    match read {
-        Ok(value) => Ok(value),
-        Err(FieldFault) => Err(LineFault { column }),
-    }
+    read.map_err(|_| LineFault { column })
 }
 
 // The counts of materials and units that the first line shows.

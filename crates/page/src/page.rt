@@ -14,13 +14,10 @@ use book::PageFault;
 fn on_line<T>(line: u16, read: Result<T, LineFault>) -> Result<T, PageFault>
     ensures { result ≡ on_line line read }
 {
-    match read {
-        Ok(value) => Ok(value),
-        Err(fault) => Err(PageFault {
-            line,
-            column: fault.column,
-        }),
-    }
+    read.map_err(|fault| PageFault {
+        line,
+        column: fault.column,
+    })
 }
 
 // The bytes of the line that begins at `start`, or the fault of a line that the end of the bytes cuts short.
