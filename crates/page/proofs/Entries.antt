@@ -1,12 +1,13 @@
 -- The fields of a list, one after another: what the reader has to know of the field before. Assumes nothing.
-use Rattle.std.proofs.Common.{◌≡◌, ℕ, zero, suc, ◌+◌, ◌-◌, ◌*◌, ◌<◌, ◌≤◌, List, map, length, take, drop, Some, None, Ok, Err, Option, sym, refl, ap, ◌∙◌, subst, inl, inr, add-one, arith, below_more}
+use Rattle.std.proofs.Common.{◌≡◌, ℕ, ◌++◌, zero, suc, ◌+◌, ◌-◌, ◌*◌, ◌<◌, ◌≤◌, List, map, length, take, drop, Some, None, Ok, Err, Option, sym, refl, ap, ◌∙◌, subst, inl, inr, add-one, arith, length-append, length-drop, below_more}
+use Rattle.std.proofs.lemmas.List.{take_at, drop_at, drop-drop}
 use Rattle.std.proofs.lemmas.List.FromFn.{get_or-map-range_with_len}
 use Rattle.std.specs.List.{range_with_len}
 use Rattle.columns.specs.Columns.{blanks, Shows}
 use Rattle.columns.proofs.Laws.{same_shown, shown_not_blank}
 use Rattle.page.specs.Layout.{number_width}
 use Rattle.page.specs.Rules.{Field, Right, entry, before, entry_field, entry_fields, newline_field}
-use Rattle.page.specs.Faults.{columns_before, field_at, FieldRight}
+use Rattle.page.specs.Faults.{columns_before, field_at, FieldRight, AllRight}
 use Rattle.page.specs.Readers.{MayStand, EntryTold, WrongFrom}
 use Rattle.page.specs.declared.field.FieldFault.{FieldFault}
 
@@ -55,32 +56,60 @@ module _ (highest : ℕ) (list : List ℕ) (i : ℕ) (h : i < 8) where
       ap (λ (f : Field). Right f.rule (take f.width (drop (columns_before (entry_fields highest list) i) list))) entry_at
       ∙ ap (λ k. Right (entry highest (before list i)) (take number_width (drop k list))) entry_begins
 
--- one turn of the reader's loop: the fields before the i-th are right, and `above` is kept of the last of them
-module _ (highest : ℕ) (list : List ℕ) (i : ℕ) (h : i < 8) (above : Option ℕ) (left : Left (before list i) above) (all : (k : ℕ) → k < i → FieldRight (entry_fields highest list) list k) where
-  -- the i-th field, as the code cuts it out
-  abbrev cut : List ℕ
-  cut = take (number_width * i + number_width - number_width * i) (drop (number_width * i) list)
+-- how far a list is read: the fields before the n-th are right, `above` is kept of the last of them, and the rest, which
+-- comes in chunks of `width`, is still to be read
+pub record ReadTo (highest : ℕ) (list : List ℕ) (n : ℕ) (above : Option ℕ) (width : ℕ) (rest : List ℕ) : Type 0 where
+  pub kept : Left (before list n) above
+  pub right : (k : ℕ) → k < n → FieldRight (entry_fields highest list) list k
+  pub field_wide : width ≡ number_width
+  pub left : rest ≡ drop (number_width * n) list
 
-  cut_is : cut ≡ take number_width (drop (number_width * i) list)
-  cut_is = let e : number_width * i + number_width - number_width * i ≡ number_width = omega arith in ap (λ w. take w (drop (number_width * i) list)) e
+pub none_read : (highest : ℕ) (list : List ℕ) (width : ℕ) (rest : List ℕ) → width ≡ number_width → rest ≡ list → ReadTo highest list 0 (Some 0) width rest
+none_read highest list width rest w e = record { kept = refl; right = λ k h. absurd (omega arith); field_wide = w; left = e }
 
-  pub entry_again : (kept : Option ℕ) → EntryTold highest above cut (Ok kept) → Left (before list (i + 1)) kept × ((k : ℕ) → k < i + 1 → FieldRight (entry_fields highest list) list k)
+-- one turn of the reader's loop: the next chunk is split off
+module _ (highest : ℕ) (list : List ℕ) (n : ℕ) (above : Option ℕ) (width : ℕ) (rest field others : List ℕ) (whole : length list ≡ 40) (r : ReadTo highest list n above width rest) (split : rest ≡ field ++ others) (wide : length field ≡ width) where
+  here : n < 8
+  here =
+      let long : length field + length others ≡ length list - number_width * n = sym (length-append field others) ∙ (ap length (sym split ∙ r.left) ∙ length-drop (number_width * n) list) in
+      omega (arith, long, whole, wide, r.field_wide)
+
+  -- the chunk is the n-th field
+  abbrev nth : List ℕ
+  nth = take number_width (drop (number_width * n) list)
+
+  cut : field ≡ nth
+  cut = sym (take_at field others number_width (wide ∙ r.field_wide)) ∙ ap (take number_width) (sym split ∙ r.left)
+
+  behind : others ≡ drop (number_width * (n + 1)) list
+  behind =
+      let next : number_width * n + number_width ≡ number_width * (n + 1) = omega arith in
+      sym (drop_at field others number_width (wide ∙ r.field_wide)) ∙ (ap (drop number_width) (sym split ∙ r.left) ∙ (drop-drop number_width (number_width * n) list ∙ ap (λ k. drop k list) next))
+
+  pub entry_again : (kept : Option ℕ) → EntryTold highest above field (Ok kept) → ReadTo highest list (n + 1) kept width others
   entry_again kept t =
-      let p = entry_right highest (before list i) above (take number_width (drop (number_width * i) list)) kept left (subst (λ bytes. EntryTold highest above bytes (Ok kept)) cut_is t) in (
-        subst (λ j. Left (before list j) kept) (sym (add-one i)) p.1,
-        below_more _ _ all (subst (λ (X : Type 0). X) (sym (entry_is highest list i h)) p.0),
-      )
+      let p = entry_right highest (before list n) above nth kept r.kept (subst (λ bytes. EntryTold highest above bytes (Ok kept)) cut t) in
+      record {
+        kept = subst (λ j. Left (before list j) kept) (sym (add-one n)) p.1;
+        right = below_more _ _ r.right (subst (λ (X : Type 0). X) (sym (entry_is highest list n here)) p.0);
+        field_wide = r.field_wide;
+        left = behind;
+      }
 
-  pub entry_fault : (first : ℕ) (fault : FieldFault) → EntryTold highest above cut (Err fault) → WrongFrom first (entry_fields highest list) list (first + number_width * i)
+  pub entry_fault : (first : ℕ) (fault : FieldFault) → EntryTold highest above field (Err fault) → WrongFrom first (entry_fields highest list) list (first + number_width * n)
   entry_fault first fault t =
-      let wrong = entry_wrong highest (before list i) above (take number_width (drop (number_width * i) list)) fault left (subst (λ bytes. EntryTold highest above bytes (Err fault)) cut_is t) in (
-        number_width * i + 1,
+      let wrong = entry_wrong highest (before list n) above nth fault r.kept (subst (λ bytes. EntryTold highest above bytes (Err fault)) cut t) in (
+        number_width * n + 1,
         record {
-          place = i;
-          there = h;
-          begins = ap (λ k. k + 1) (sym (entry_begins highest list i h));
-          left_right = all;
-          wrong = λ r. wrong (subst (λ (X : Type 0). X) (entry_is highest list i h) r);
+          place = n;
+          there = here;
+          begins = ap (λ k. k + 1) (sym (entry_begins highest list n here));
+          left_right = r.right;
+          wrong = λ x. wrong (subst (λ (X : Type 0). X) (entry_is highest list n here) x);
         },
         omega arith,
       )
+
+-- no whole field is left
+pub all_read : (highest : ℕ) (list : List ℕ) (n : ℕ) (above : Option ℕ) (width : ℕ) (rest : List ℕ) → length list ≡ 40 → ReadTo highest list n above width rest → length rest < width → AllRight (entry_fields highest list) list
+all_read highest list n above width rest whole r short i h = r.right i (omega (arith, h, whole, short, r.field_wide, ap length r.left, length-drop (number_width * n) list))

@@ -9,7 +9,7 @@ use crate::field::{
     FieldFault, class_in, count_in, entry_in, highest_named, newline_in, running_in,
 };
 use crate::layout::{
-    COUNTS_END, INPUTS_COLUMN, LETTER_COLUMN, LIST, LIST_FIELDS, MATERIAL_END, MATERIALS_COLUMN,
+    COUNTS_END, INPUTS_COLUMN, LETTER_COLUMN, LIST, MATERIAL_END, MATERIALS_COLUMN,
     NUMBER, NUMBER_COLUMN, OUTPUTS_COLUMN, UNIT_END, UNITS_COLUMN,
 };
 
@@ -71,10 +71,8 @@ fn list_in(list: &[u8], highest: u16, first: u16) -> Result<(), LineFault>
     ensures { ListTold first (entry_fields highest list.now) list.now result }
 {
     let mut above = Some(0);
-    for i in 0..LIST_FIELDS {
-        let place = NUMBER * i;
-        let field = &list[place..place + NUMBER];
-        let column = field_column(first, place);
+    for (i, field) in list.chunks_exact(NUMBER).enumerate() {
+        let column = field_column(first, NUMBER * i);
         above = at_column(column, entry_in(field, highest, above))?;
     }
     Ok(())
