@@ -65,6 +65,8 @@ fn field_column(first: u16, before: usize) -> u16
 }
 
 // Reads a list's eight fields, the first of which begins at the column `first`.
+// Inlined, since a list's width is known where it is called: how many fields there are is then not worked out again.
+#[inline(always)]
 fn list_in(list: &[u8], highest: u16, first: u16) -> Result<(), LineFault>
     requires whole { length list.now ≡ 40 }
     requires fits { first + 40 < 2 ^ 16 }
