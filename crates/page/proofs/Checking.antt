@@ -7,7 +7,8 @@ use Rattle.page.specs.Checked.{PageOf}
 use Rattle.page.specs.Layout.{Line, counts, material, unit, line_length, line_start, line_number, page_length, OnPage}
 use Rattle.page.specs.Rules.{fields}
 use Rattle.page.specs.Faults.{AllRight, FirstWrong, LineRight, RightAbove, FaultAt, cut_short, wrong_field, bytes_after, Counts, Refused}
-use Rattle.page.specs.Readers.{LineTold, LineThere, CutShort, on_line, FaultyAt, LineChecked, FirstFaulty}
+use Rattle.page.specs.Readers.{LineTold, LineThere, CutShort, on_line, FaultyAt, LineChecked, FirstFault, EachAnswered}
+use Rattle.page.specs.declared.counts.Counts.{Counts as Shown}
 use Rattle.page.specs.declared.line.LineFault.{LineFault}
 use Rattle.page.proofs.Assembled.{assembled}
 
@@ -26,38 +27,44 @@ checked_line bytes l x part (Err f) t told = (refl, inr (t.0, subst (λ p. First
 pub faulty_cut : (bytes : List ℕ) (l : ℕ) (x : Line) (fault : PageFault) → CutShort bytes (line_start l x) (line_length x) (line_number l x) fault → FaultyAt bytes l x fault.line fault.column
 faulty_cut bytes l x fault cut = (ap (λ (f : PageFault). f.line) cut.1, inl (cut.0, ap (λ (f : PageFault). f.column) cut.1))
 
--- one more line of a kind is right
-pub lines_more : (bytes : List ℕ) (l : ℕ) (kind : ℕ → Line) (i : ℕ) → ((k : ℕ) → 1 ≤ k → k < i → LineRight bytes l (kind k)) → LineRight bytes l (kind i) → (k : ℕ) → 1 ≤ k → k < i + 1 → LineRight bytes l (kind k)
-lines_more bytes l kind i above here k some h = elim (cases_order k i) [
-  | inl e ↦ subst (λ j. LineRight bytes l (kind j)) (sym e) here
+-- what each answer tells is told of all of them
+pub each_tells : (answers wanted : ℕ → Result (Unit {0}) PageFault → Type 0) (count : ℕ) (r : Result (Unit {0}) PageFault) → ((k : ℕ) (a : Result (Unit {0}) PageFault) → answers k a → wanted k a) → EachAnswered answers count r → EachAnswered wanted count r
+each_tells answers wanted count (Ok _) tells all = λ k some there. tells k (Ok tt) (all k some there)
+each_tells answers wanted count (Err fault) tells first = record {
+  number = first.number;
+  counted = first.counted;
+  above = λ k some less. tells k (Ok tt) (first.above k some less);
+  faulty = tells first.number (Err fault) first.faulty;
+}
+
+-- one more answer is no fault
+pub one_more : (answers : ℕ → Result (Unit {0}) PageFault → Type 0) (i : ℕ) → ((k : ℕ) → 1 ≤ k → k < i → answers k (Ok tt)) → answers i (Ok tt) → (k : ℕ) → 1 ≤ k → k < i + 1 → answers k (Ok tt)
+one_more answers i above here k some h = elim (cases_order k i) [
+  | inl e ↦ subst (λ j. answers j (Ok tt)) (sym e) here
   | inr d ↦ elim d [ inl less ↦ above k some less | inr more ↦ absurd (omega arith) ]
 ]
-
--- the first line of a kind that is not right
-pub lines_faulty : (bytes : List ℕ) (l : ℕ) (kind : ℕ → Line) (count i line column : ℕ) → 1 ≤ i → i ≤ count → ((k : ℕ) → 1 ≤ k → k < i → LineRight bytes l (kind k)) → FaultyAt bytes l (kind i) line column → FirstFaulty bytes l kind count line column
-lines_faulty bytes l kind count i line column some there above faulty = record { number = i; counted = (some, there); above = above; faulty = faulty }
 
 -- the first line was read: it is right, and tells the counts of the page
 pub record Opened (bytes : List ℕ) (l n : ℕ) : Type 0 where
   pub counted : Counts bytes l n
   pub first : LineRight bytes l counts
 
-pub opened : (bytes first : List ℕ) (read : Result (ℕ × ℕ) LineFault) (l n : ℕ) → LineThere bytes 0 11 first → LineTold (fields 0 counts first) first read → IfOk read (λ c. Counts first c.0 c.1) → Ok (l, n) ≡ on_line 1 read → Opened bytes l n
-opened bytes first (Ok c) l n t told shown e =
-    let same : c ≡ (l, n) = cc in
-    let k = subst (λ (p : ℕ × ℕ). Counts first p.0 p.1) same shown in
+pub opened : (bytes first : List ℕ) (read : Result Shown LineFault) (shown : Shown) → LineThere bytes 0 11 first → LineTold (fields 0 counts first) first read → IfOk read (λ c. Counts first c.materials c.units) → Ok shown ≡ on_line 1 read → Opened bytes shown.materials shown.units
+opened bytes first (Ok c) shown t told counted e =
+    let same : c ≡ shown = cc in
+    let k = subst (λ (p : Shown). Counts first p.materials p.units) same counted in
     record {
       counted = record {
         materials = k.materials;
         units = k.units;
         shown = sym (take-take 11 11 bytes (omega arith)) ∙ (ap (take 11) (sym t.1) ∙ k.shown);
       };
-      first = checked_line bytes l counts first (Ok c) t told;
+      first = checked_line bytes shown.materials counts first (Ok c) t told;
     }
-opened bytes first (Err f) l n t told shown e = let z : ◌≡◌ {A = ℕ} 0 1 = cc in absurd (omega arith)
+opened bytes first (Err f) shown t told counted e = let z : ◌≡◌ {A = ℕ} 0 1 = cc in absurd (omega arith)
 
 -- the first line was read, and is at fault
-pub faulty_first : (bytes first : List ℕ) (read : Result (ℕ × ℕ) LineFault) (fault : PageFault) → LineThere bytes 0 11 first → LineTold (fields 0 counts first) first read → Err fault ≡ on_line 1 read → FaultyAt bytes 0 counts fault.line fault.column
+pub faulty_first : (bytes first : List ℕ) (read : Result Shown LineFault) (fault : PageFault) → LineThere bytes 0 11 first → LineTold (fields 0 counts first) first read → Err fault ≡ on_line 1 read → FaultyAt bytes 0 counts fault.line fault.column
 faulty_first bytes first read fault t told e = subst (LineChecked bytes 0 counts) (sym e) (checked_line bytes 0 counts first read t told)
 
 fault_here : (bytes : List ℕ) (l n : ℕ) (x : Line) (line column : ℕ) → OnPage l n x → RightAbove bytes l n line → FaultyAt bytes l x line column → FaultAt bytes l n line column
@@ -86,12 +93,12 @@ module _ (bytes : List ℕ) (l n : ℕ) (o : Opened bytes l n) where
   above_material line number there e above (unit k) on h = absurd (omega arith)
 
   -- a material's line is the first at fault
-  pub refused_material : (line column : ℕ) → FirstFaulty bytes l material l line column → Refused bytes line column
-  refused_material line column w = record {
+  pub refused_material : (fault : PageFault) → FirstFault (λ k. LineChecked bytes l (material k)) l fault → Refused bytes fault.line fault.column
+  refused_material fault w = record {
     materials = l;
     units = n;
     counted = λ h. o.counted;
-    fault = fault_here bytes l n (material w.number) line column w.counted (above_material line w.number w.counted.1 w.faulty.0 w.above) w.faulty;
+    fault = fault_here bytes l n (material w.number) fault.line fault.column w.counted (above_material fault.line w.number w.counted.1 w.faulty.0 w.above) w.faulty;
   }
 
   module _ (materials : (k : ℕ) → 1 ≤ k → k ≤ l → LineRight bytes l (material k)) where
@@ -101,12 +108,12 @@ module _ (bytes : List ℕ) (l n : ℕ) (o : Opened bytes l n) where
     above_unit line number e above (unit k) on h = above k on.0 (omega arith)
 
     -- a unit's line is the first at fault
-    pub refused_unit : (line column : ℕ) → FirstFaulty bytes l unit n line column → Refused bytes line column
-    refused_unit line column w = record {
+    pub refused_unit : (fault : PageFault) → FirstFault (λ k. LineChecked bytes l (unit k)) n fault → Refused bytes fault.line fault.column
+    refused_unit fault w = record {
       materials = l;
       units = n;
       counted = λ h. o.counted;
-      fault = fault_here bytes l n (unit w.number) line column w.counted (above_unit line w.number w.faulty.0 w.above) w.faulty;
+      fault = fault_here bytes l n (unit w.number) fault.line fault.column w.counted (above_unit fault.line w.number w.faulty.0 w.above) w.faulty;
     }
 
     module _ (units : (k : ℕ) → 1 ≤ k → k ≤ n → LineRight bytes l (unit k)) where

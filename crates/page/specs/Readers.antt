@@ -72,14 +72,18 @@ abbrev pub LineChecked : {T : Type 0} → List ℕ → (l : ℕ) → Line → Re
 LineChecked bytes l x (Ok _) = LineRight bytes l x
 LineChecked bytes l x (Err fault) = FaultyAt bytes l x fault.line fault.column
 
--- the first line of a kind that is at fault
-pub record FirstFaulty (bytes : List ℕ) (l : ℕ) (kind : ℕ → Line) (count line column : ℕ) : Type 0 where
+-- the first number from 1 to the count at which the answer is a fault
+pub record FirstFault (answers : ℕ → Result (Unit {0}) PageFault → Type 0) (count : ℕ) (fault : PageFault) : Type 0 where
   pub number : ℕ
   pub counted : (1 ≤ number) × (number ≤ count)
-  pub above : (k : ℕ) → 1 ≤ k → k < number → LineRight bytes l (kind k)
-  pub faulty : FaultyAt bytes l (kind number) line column
+  pub above : (k : ℕ) → 1 ≤ k → k < number → answers k (Ok tt)
+  pub faulty : answers number (Err fault)
+
+-- the answers at the numbers from 1 to the count: none is a fault, or one is the first
+abbrev pub EachAnswered : (answers : ℕ → Result (Unit {0}) PageFault → Type 0) → (count : ℕ) → Result (Unit {0}) PageFault → Type 0
+EachAnswered answers count (Ok _) = (k : ℕ) → 1 ≤ k → k ≤ count → answers k (Ok tt)
+EachAnswered answers count (Err fault) = FirstFault answers count fault
 
 -- the lines of a kind, numbered from 1 to the count: all are right, or one is the first at fault
-abbrev pub LinesChecked : {T : Type 0} → List ℕ → (l : ℕ) → (ℕ → Line) → (count : ℕ) → Result T PageFault → Type 0
-LinesChecked bytes l kind count (Ok _) = (k : ℕ) → 1 ≤ k → k ≤ count → LineRight bytes l (kind k)
-LinesChecked bytes l kind count (Err fault) = FirstFaulty bytes l kind count fault.line fault.column
+abbrev pub LinesChecked : List ℕ → (l : ℕ) → (ℕ → Line) → (count : ℕ) → Result (Unit {0}) PageFault → Type 0
+LinesChecked bytes l kind count = EachAnswered (λ k. LineChecked bytes l (kind k)) count

@@ -1,10 +1,11 @@
 // The line reader: whether a line keeps to the rules of its kind, and the column of the first field that does not.
 ghost use Rattle.std.specs.Prelude.{◌≡◌, ◌+◌, ◌^◌, ◌<◌, length, IfOk};
-ghost use Rattle.page.specs.Faults.{Counts};
+ghost use Rattle.page.specs.Faults.{Counts as Counted};
 ghost use Rattle.page.specs.Layout.{counts, material, unit};
 ghost use Rattle.page.specs.Readers.{LineTold, ListTold, at_column};
 ghost use Rattle.page.specs.Rules.{entry_fields, fields as fields_of};
 
+use crate::counts::Counts;
 use crate::field::{
     FieldFault, class_in, count_in, entry_in, highest_named, newline_in, running_in,
 };
@@ -27,17 +28,17 @@ fn at_column<T>(column: u16, read: Result<T, FieldFault>) -> Result<T, LineFault
 }
 
 // The counts of materials and units that the first line shows.
-pub(crate) fn counts_line(line: &[u8]) -> Result<(u16, u16), LineFault>
+pub(crate) fn counts_line(line: &[u8]) -> Result<Counts, LineFault>
     requires { length line.now ≡ 11 }
     ensures told { LineTold (fields_of 0 counts line.now) line.now result }
-    ensures counted { IfOk result (λ c. Counts line.now c.0 c.1) }
+    ensures counted { IfOk result (λ c. Counted line.now c.materials c.units) }
 {
     let (first, rest) = line.split_at(NUMBER);
     let materials = at_column(MATERIALS_COLUMN, count_in(first))?;
     let (second, rest) = rest.split_at(NUMBER);
     let units = at_column(UNITS_COLUMN, count_in(second))?;
     at_column(COUNTS_END, newline_in(rest[0]))?;
-    Ok((materials, units))
+    Ok(Counts { materials, units })
 }
 
 // Reads the line of the material with this number.

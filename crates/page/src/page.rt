@@ -2,8 +2,9 @@
 ghost use Rattle.std.specs.Prelude.{◌≡◌, ℕ, ◌+◌, ◌^◌, ◌<◌, ◌≤◌, take, MatchResult};
 ghost use Rattle.page.specs.Checked.{Checked, FaultlessIsPage};
 ghost use Rattle.page.specs.Layout.{material, unit};
-ghost use Rattle.page.specs.Readers.{CutShort, LineChecked, LinesChecked, LineThere, on_line};
+ghost use Rattle.page.specs.Readers.{CutShort, EachAnswered, LineChecked, LinesChecked, LineThere, on_line};
 
+use crate::counts::Counts;
 use crate::layout::{
     COUNTS_LINE, MATERIAL_LINE, UNIT_LINE, material_start, page_length, unit_start,
 };
@@ -30,61 +31,61 @@ fn whole_line(bytes: &[u8], start: usize, width: usize, line: u16) -> Result<&[u
         .ok_or(PageFault { line, column: 0 })
 }
 
-// Checks the line of the material with this number, which is the same on a page with any number of materials.
-fn check_material(bytes: &[u8], number: u16) -> Result<(), PageFault>
-    requires from_one { 1 ≤ number }
-    requires at_most { number ≤ 512 }
-    ensures { (l : ℕ) → LineChecked bytes.now l (material number) result }
+// Checks lines numbered from 1 to `count`, one after another, each by `check_line`.
+fn each_line<F: Fn(u16) -> Result<(), PageFault>>(count: u16, check_line: F) -> Result<(), PageFault>
+    requires { (number : ℕ) → 1 ≤ number → number ≤ count → F.pre check_line number }
+    ensures { EachAnswered (F.post check_line) count result }
 {
-    let line_number = 1 + number;
-    let line = whole_line(bytes, material_start(number), MATERIAL_LINE, line_number)?;
-    on_line(line_number, material_line(line, number))
-}
-
-// Checks the lines of the materials, of which there should be this many.
-fn check_materials(bytes: &[u8], materials: u16) -> Result<(), PageFault>
-    requires { materials ≤ 512 }
-    ensures { LinesChecked bytes.now materials material materials result }
-{
-    for number in 1..=materials {
-        check_material(bytes, number)?;
+    for number in 1..=count {
+        check_line(number)?;
     }
     Ok(())
 }
 
-// Checks the line of the unit with this number, on a page with this many materials.
-fn check_unit(bytes: &[u8], materials: u16, number: u16) -> Result<(), PageFault>
-    requires few_materials { materials ≤ 512 }
-    requires from_one { 1 ≤ number }
-    requires at_most { number ≤ 512 }
-    ensures { LineChecked bytes.now materials (unit number) result }
-{
-    let line_number = 1 + materials + number;
-    let line = whole_line(bytes, unit_start(materials, number), UNIT_LINE, line_number)?;
-    on_line(line_number, unit_line(line, number, materials))
-}
-
-// Checks the lines of the units, of which there should be this many.
-fn check_units(bytes: &[u8], materials: u16, units: u16) -> Result<(), PageFault>
-    requires few_materials { materials ≤ 512 }
-    requires few_units { units ≤ 512 }
-    ensures { LinesChecked bytes.now materials unit units result }
-{
-    for number in 1..=units {
-        check_unit(bytes, materials, number)?;
+impl Counts {
+    // Checks the line of the material with this number.
+    fn check_material(self, bytes: &[u8], number: u16) -> Result<(), PageFault>
+        requires { number ≤ self.materials }
+        ensures { LineChecked bytes.now self.materials (material number) result }
+    {
+        let line_number = 1 + number;
+        let line = whole_line(bytes, material_start(number), MATERIAL_LINE, line_number)?;
+        on_line(line_number, material_line(line, number))
     }
-    Ok(())
-}
 
-// The fault of bytes that go on after the last line of a page with these counts.
-fn bytes_after(materials: u16, units: u16) -> PageFault
-    requires few_materials { materials ≤ 512 }
-    requires few_units { units ≤ 512 }
-    ensures { result ≡ record { line = materials + units + 2; column = 0 } }
-{
-    PageFault {
-        line: materials + units + 2,
-        column: 0,
+    // Checks the lines of the materials.
+    fn check_materials(self, bytes: &[u8]) -> Result<(), PageFault>
+        ensures { LinesChecked bytes.now self.materials material self.materials result }
+    {
+        each_line(self.materials, |number| self.check_material(bytes, number))
+    }
+
+    // Checks the line of the unit with this number.
+    fn check_unit(self, bytes: &[u8], number: u16) -> Result<(), PageFault>
+        requires { number ≤ self.units }
+        ensures { LineChecked bytes.now self.materials (unit number) result }
+    {
+        let line_number = 1 + self.materials + number;
+        let start = unit_start(self.materials, number);
+        let line = whole_line(bytes, start, UNIT_LINE, line_number)?;
+        on_line(line_number, unit_line(line, number, self.materials))
+    }
+
+    // Checks the lines of the units.
+    fn check_units(self, bytes: &[u8]) -> Result<(), PageFault>
+        ensures { LinesChecked bytes.now self.materials unit self.units result }
+    {
+        each_line(self.units, |number| self.check_unit(bytes, number))
+    }
+
+    // The fault of bytes that go on after the last line.
+    fn bytes_after(self) -> PageFault
+        ensures { result ≡ record { line = self.materials + self.units + 2; column = 0 } }
+    {
+        PageFault {
+            line: self.materials + self.units + 2,
+            column: 0,
+        }
     }
 }
 
@@ -96,11 +97,11 @@ pub fn check(bytes: &[u8]) -> Result<(u16, u16), PageFault>
     ensures first_bytes_decide { Checked (take 48140 bytes.now) result }
 {
     let first = whole_line(bytes, 0, COUNTS_LINE, 1)?;
-    let (materials, units) = on_line(1, counts_line(first))?;
-    check_materials(bytes, materials)?;
-    check_units(bytes, materials, units)?;
-    if bytes.len() > page_length(materials, units) {
-        return Err(bytes_after(materials, units));
+    let counts = on_line(1, counts_line(first))?;
+    counts.check_materials(bytes)?;
+    counts.check_units(bytes)?;
+    if bytes.len() > page_length(counts.materials, counts.units) {
+        return Err(counts.bytes_after());
     }
-    Ok((materials, units))
+    Ok((counts.materials, counts.units))
 }

@@ -1,0 +1,7 @@
+-- Each answer tells of the line with its number.
+use Rattle.std.proofs.Common.{rules}
+use Rattle.page.proofs.Checking.{each_tells}
+use Rattle.page.proofs.counts.Counts.check_materials.Goals as goal
+
+pub returns : goal.returns
+returns c = search (rules, each_tells)
