@@ -1,5 +1,5 @@
 -- Of any bytes one answer only is right, and to have no fault is to be a page. Assumes nothing.
-use Rattle.std.proofs.Common.{◌≡◌, ℕ, List, Ok, Err, Result, ap, ◌∙◌, arith}
+use Rattle.std.proofs.Common.{◌≡◌, ℕ, List, Ok, Err, Result, take, ap, ◌∙◌, arith}
 use Rattle.book.specs.declared.PageFault.{PageFault}
 use Rattle.page.specs.Layout.{line_bytes}
 use Rattle.page.specs.Rules.{fields}
@@ -7,6 +7,7 @@ use Rattle.page.specs.Faults.{FaultAt, cut_short, wrong_field, bytes_after, Refu
 use Rattle.page.specs.Checked.{PageOf, Checked, SomePage, Faultless, FaultlessIsPage}
 use Rattle.page.proofs.Scan.{right_or_wrong}
 use Rattle.page.proofs.Pages.{page_size, page_counts, page_right}
+use Rattle.page.proofs.Prefix.{first_bytes}
 use Rattle.page.proofs.Unique.{same_counts, same_fault, fault_by_counts}
 
 -- a page has no fault by its own counts
@@ -38,3 +39,12 @@ page_if_faultless bytes (Err f) c none = absurd (none f.line f.column c)
 -- so where anything is answered, having no fault and being a page are the same
 pub faultless_is_page : (bytes : List ℕ) (r : Result (ℕ × ℕ) PageFault) → Checked bytes r → FaultlessIsPage bytes
 faultless_is_page bytes r c = (page_if_faultless bytes r c, λ p line column f. page_faultless bytes p.0 p.1 line column p.2 f)
+
+-- all that the check promises of an answer follows from what it tells
+pub verdict : (bytes : List ℕ) (r : Result (ℕ × ℕ) PageFault) → Checked bytes r → record { told : Checked bytes r; only : (other : Result (ℕ × ℕ) PageFault) → Checked bytes other → other ≡ r; faultless_is_page : FaultlessIsPage bytes; first_bytes_decide : Checked (take 48140 bytes) r }
+verdict bytes r told = record {
+  told = told;
+  only = λ s t. one_answer bytes r s told t;
+  faultless_is_page = faultless_is_page bytes r told;
+  first_bytes_decide = first_bytes bytes r told;
+}

@@ -4,9 +4,8 @@ use Rattle.book.specs.declared.PageFault.{PageFault}
 use Rattle.page.specs.Checked.{Checked}
 use Rattle.page.specs.Layout.{counts}
 use Rattle.page.proofs.Checking.{faulty_cut, faulty_first, opened, refused_first, refused_material, refused_unit, refused_after, accepted}
-use Rattle.page.proofs.Prefix.{first_bytes}
 use Rattle.page.proofs.Reading.{at_exit}
-use Rattle.page.proofs.Verdict.{one_answer, faultless_is_page}
+use Rattle.page.proofs.Verdict.{verdict}
 use Rattle.page.proofs.page.check.Goals as goal
 
 pub returns-in_err-first : goal.returns-in_err-first
@@ -15,7 +14,7 @@ returns-in_err-first c =
     let r = c.from_residual.result in
     let fault = c.in_err-first.field-0.0 in
     let told = at_exit (Checked bytes) r fault c.from_residual.ensures.1 (refused_first bytes fault.line fault.column (faulty_cut bytes 0 counts fault c.in_err-first.ensures)) in
-    record { told = told; only = λ s t. one_answer bytes r s told t; faultless_is_page = faultless_is_page bytes r told; first_bytes_decide = first_bytes bytes r told }
+    verdict bytes r told
 
 pub returns-in_err-counts : goal.returns-in_err-counts
 returns-in_err-counts c =
@@ -25,7 +24,7 @@ returns-in_err-counts c =
     let first = c.in_ok-first.first.now in
     let faulty = faulty_first bytes first c.counts_line.result fault c.in_ok-first.ensures c.counts_line.ensures.told c.in_err-counts.ensures in
     let told = at_exit (Checked bytes) r fault c.from_residual-in_err-counts.ensures.1 (refused_first bytes fault.line fault.column faulty) in
-    record { told = told; only = λ s t. one_answer bytes r s told t; faultless_is_page = faultless_is_page bytes r told; first_bytes_decide = first_bytes bytes r told }
+    verdict bytes r told
 
 pub returns-in_err-check_materials : goal.returns-in_err-check_materials
 returns-in_err-check_materials c =
@@ -37,7 +36,7 @@ returns-in_err-check_materials c =
     let r = c.from_residual-in_err-check_materials.result in
     let fault = c.in_err-check_materials.field-0.0 in
     let told = at_exit (Checked bytes) r fault c.from_residual-in_err-check_materials.ensures.1 (refused_material bytes l n o fault c.in_err-check_materials.ensures) in
-    record { told = told; only = λ s t. one_answer bytes r s told t; faultless_is_page = faultless_is_page bytes r told; first_bytes_decide = first_bytes bytes r told }
+    verdict bytes r told
 
 pub returns-in_err-check_units : goal.returns-in_err-check_units
 returns-in_err-check_units c =
@@ -49,7 +48,7 @@ returns-in_err-check_units c =
     let r = c.from_residual-in_err-check_units.result in
     let fault = c.in_err-check_units.field-0.0 in
     let told = at_exit (Checked bytes) r fault c.from_residual-in_err-check_units.ensures.1 (refused_unit bytes l n o c.in_ok-check_materials.ensures fault c.in_err-check_units.ensures) in
-    record { told = told; only = λ s t. one_answer bytes r s told t; faultless_is_page = faultless_is_page bytes r told; first_bytes_decide = first_bytes bytes r told }
+    verdict bytes r told
 
 pub returns-then-bytes-page_length : goal.returns-then-bytes-page_length
 returns-then-bytes-page_length c =
@@ -61,7 +60,7 @@ returns-then-bytes-page_length c =
     let r : Result (ℕ × ℕ) PageFault = Err c.bytes_after.result in
     let after = refused_after bytes l n o c.in_ok-check_materials.ensures c.in_ok-check_units.ensures (omega (arith, c.page_length.ensures, c.if-bytes-page_length.true)) in
     let told = subst (λ fault. Checked bytes (Err fault)) (sym c.bytes_after.ensures) after in
-    record { told = told; only = λ s t. one_answer bytes r s told t; faultless_is_page = faultless_is_page bytes r told; first_bytes_decide = first_bytes bytes r told }
+    verdict bytes r told
 
 pub returns : goal.returns
 returns c =
@@ -72,4 +71,4 @@ returns c =
     let o = opened bytes c.in_ok-first.first.now c.counts_line.result shown c.in_ok-first.ensures c.counts_line.ensures.told c.counts_line.ensures.counted c.in_ok-counts.ensures in
     let r : Result (ℕ × ℕ) PageFault = Ok (l, n) in
     let told = accepted bytes l n o c.in_ok-check_materials.ensures c.in_ok-check_units.ensures (omega (arith, c.page_length.ensures, c.if-bytes-page_length.false)) in
-    record { told = told; only = λ s t. one_answer bytes r s told t; faultless_is_page = faultless_is_page bytes r told; first_bytes_decide = first_bytes bytes r told }
+    verdict bytes r told
