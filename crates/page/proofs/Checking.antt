@@ -1,7 +1,6 @@
 -- How the check of a page goes on from line to line. Assumes nothing.
 use Rattle.std.proofs.Common.{◌≡◌, ℕ, ◌+◌, ◌<◌, ◌≤◌, List, length, take, drop, IfOk, Ok, Err, Result, sym, refl, ap, ◌∙◌, subst, inl, inr, arith, length-drop}
 use Rattle.std.proofs.lemmas.List.{length-take-le, take-take}
-use Rattle.std.proofs.lemmas.Bool.{cases_order}
 use Rattle.book.specs.declared.PageFault.{PageFault}
 use Rattle.page.specs.Checked.{PageOf}
 use Rattle.page.specs.Layout.{Line, counts, material, unit, line_length, line_start, line_number, page_length, OnPage}
@@ -36,13 +35,6 @@ each_tells answers wanted count (Err fault) tells first = record {
   above = λ k some less. tells k (Ok tt) (first.above k some less);
   faulty = tells first.number (Err fault) first.faulty;
 }
-
--- one more answer is no fault
-pub one_more : (answers : ℕ → Result (Unit {0}) PageFault → Type 0) (i : ℕ) → ((k : ℕ) → 1 ≤ k → k < i → answers k (Ok tt)) → answers i (Ok tt) → (k : ℕ) → 1 ≤ k → k < i + 1 → answers k (Ok tt)
-one_more answers i above here k some h = elim (cases_order k i) [
-  | inl e ↦ subst (λ j. answers j (Ok tt)) (sym e) here
-  | inr d ↦ elim d [ inl less ↦ above k some less | inr more ↦ absurd (omega arith) ]
-]
 
 -- the first line was read: it is right, and tells the counts of the page
 pub record Opened (bytes : List ℕ) (l n : ℕ) : Type 0 where

@@ -64,9 +64,6 @@ pub record ReadTo (highest : ℕ) (list : List ℕ) (n : ℕ) (above : Option �
   pub field_wide : width ≡ number_width
   pub left : rest ≡ drop (number_width * n) list
 
-pub none_read : (highest : ℕ) (list : List ℕ) (width : ℕ) (rest : List ℕ) → width ≡ number_width → rest ≡ list → ReadTo highest list 0 (Some 0) width rest
-none_read highest list width rest w e = record { kept = refl; right = λ k h. absurd (omega arith); field_wide = w; left = e }
-
 -- one turn of the reader's loop: the next chunk is split off
 module _ (highest : ℕ) (list : List ℕ) (n : ℕ) (above : Option ℕ) (width : ℕ) (rest field others : List ℕ) (whole : length list ≡ 40) (r : ReadTo highest list n above width rest) (split : rest ≡ field ++ others) (wide : length field ≡ width) where
   here : n < 8

@@ -1,31 +1,24 @@
 -- The fields of a line whose bytes are one part after another. Assumes nothing.
-use Rattle.std.proofs.Common.{◌≡◌, ℕ, ◌+◌, ◌≤◌, List, [], ◌∷◌, ◌++◌, length, take, drop, sym, subst, arith}
-use Rattle.std.proofs.lemmas.List.{take_at, drop_at, take-append-le, drop-append-le, take-append-drop, take-take, drop-take, drop-drop, length-drop, nil_from_length}
+use Rattle.std.proofs.Common.{◌≡◌, ℕ, ◌+◌, List, [], ◌∷◌, ◌++◌, length, take, drop, sym, subst, arith}
+use Rattle.std.proofs.lemmas.List.{take_at, drop_at, take-append-drop, take-take, drop-take, drop-drop}
 use Rattle.page.specs.Rules.{Field, Right}
 use Rattle.page.specs.Faults.{AllRight}
+use Rattle.page.proofs.Reading.{width_of, Split, right_more, right_append}
 use Rattle.page.proofs.Scan.{all_none, all_more, all_first, all_rest}
 
--- how many columns these fields take together
-abbrev pub width_of : List Field → ℕ
-width_of [] = 0
-width_of (f ∷ fs) = f.width + width_of fs
+-- bytes that were joined are split again
+joined : (width : ℕ) (part rest : List ℕ) → length part ≡ width → Split width (part ++ rest) part rest
+joined width part rest wide = record { front = sym (take_at part rest width wide); back = sym (drop_at part rest width wide) }
 
 -- a field over the part and other fields over the rest are right, if the part keeps to the field's rule and the rest to the others'
 pub field_then : (f : Field) (fs : List Field) (part rest : List ℕ) → length part ≡ f.width → Right f.rule part → AllRight fs rest → AllRight (f ∷ fs) (part ++ rest)
 field_then f fs part rest wide r others =
-    all_more f fs (part ++ rest)
-    (subst (Right f.rule) (sym (take_at part rest f.width wide)) r)
-    (subst (AllRight fs) (sym (drop_at part rest f.width wide)) others)
+    right_more f fs (joined f.width part rest wide) r others
 
 -- some fields over the part and other fields over the rest are right, if both are
 pub fields_then : (fs gs : List Field) (part rest : List ℕ) → length part ≡ width_of fs → AllRight fs part → AllRight gs rest → AllRight (fs ++ gs) (part ++ rest)
-fields_then [] gs part rest wide here others = subst (λ (p : List ℕ). AllRight gs (p ++ rest)) (sym (nil_from_length part wide)) others
-fields_then (f ∷ fs) gs part rest wide here others =
-    let room : f.width ≤ length part = omega arith in
-    let less : length (drop f.width part) ≡ width_of fs = omega (arith, length-drop f.width part) in
-    all_more f (fs ++ gs) (part ++ rest)
-    (subst (Right f.rule) (sym (take-append-le f.width part rest room)) (all_first f fs part here))
-    (subst (AllRight (fs ++ gs)) (sym (drop-append-le f.width part rest room)) (fields_then fs gs (drop f.width part) rest less (all_rest f fs part here) others))
+fields_then fs gs part rest wide here others =
+    right_append fs gs (joined (width_of fs) part rest wide) here others
 
 -- where all fields are right, the first of them are, over the bytes that they take
 pub fields_first : (fs gs : List Field) (line : List ℕ) → AllRight (fs ++ gs) line → AllRight fs (take (width_of fs) line)

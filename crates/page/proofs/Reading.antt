@@ -1,7 +1,7 @@
 -- How the line reader goes through the fields of a line: one step for each field, whether it is right or wrong.
 -- Assumes nothing.
 use Rattle.std.proofs.Common.{◌≡◌, ℕ, zero, suc, ◌+◌, ◌-◌, ◌<◌, List, [], ◌∷◌, ◌++◌, length, get_or, take, drop, IsErrAnd, Ok, Err, Result, sym, refl, ap, ◌∙◌, subst, arith, length-append, length-drop}
-use Rattle.std.proofs.lemmas.List.{drop-drop, drop-take, take-append-drop, take_rest, take-take}
+use Rattle.std.proofs.lemmas.List.{drop-drop, drop-take, take_rest, take-take}
 use Rattle.std.proofs.lemmas.Result.{err_from_is_err_and}
 use Rattle.page.specs.Rules.{Field, Rule, Right, number}
 use Rattle.page.specs.Faults.{columns_before, FieldRight, AllRight, FirstWrong}
@@ -49,10 +49,6 @@ pub record Split (width : ℕ) (line part rest : List ℕ) : Type 0 where
   pub front : part ≡ take width line
   pub back : rest ≡ drop width line
 
-pub split_whole : {width : ℕ} {line part rest : List ℕ} → Split width line part rest → line ≡ part ++ rest
-split_whole {width} {line} {part} s =
-    sym (take-append-drop width line) ∙ (ap (λ p. p ++ drop width line) (sym s.front) ∙ ap (λ r. part ++ r) (sym s.back))
-
 pub length_rest : {width : ℕ} {line part rest : List ℕ} → Split width line part rest → length rest ≡ length line - width
 length_rest {width} {line} s = ap length s.back ∙ length-drop width line
 
@@ -87,24 +83,25 @@ wrong_more f fs {line} first column s r w = (
 pub wrong_now : (f : Field) (fs : List Field) {line part rest : List ℕ} (column : ℕ) → Split f.width line part rest → (Right f.rule part → ⊥) → WrongFrom column (f ∷ fs) line column
 wrong_now f fs {line} column s n = (1, wrong_here f fs line (λ r. n (subst (Right f.rule) (sym s.front) r)), omega arith)
 
--- how many columns some fields take
-abbrev pub widths : List Field → ℕ
-widths fs = columns_before fs (length fs)
+-- how many columns some fields take together
+abbrev pub width_of : List Field → ℕ
+width_of [] = 0
+width_of (f ∷ fs) = f.width + width_of fs
 
 -- a field of the front is the same field among all, and in the front of the line as in the line
-in_front : (fs gs : List Field) (line : List ℕ) (i : ℕ) → i < length fs → FieldRight fs (take (widths fs) line) i → FieldRight (fs ++ gs) line i
+in_front : (fs gs : List Field) (line : List ℕ) (i : ℕ) → i < length fs → FieldRight fs (take (width_of fs) line) i → FieldRight (fs ++ gs) line i
 in_front [] gs line i h r = absurd (omega arith)
-in_front (f ∷ fs) gs line zero h r = subst (Right f.rule) (take-take f.width (f.width + widths fs) line (omega arith)) r
+in_front (f ∷ fs) gs line zero h r = subst (Right f.rule) (take-take f.width (f.width + width_of fs) line (omega arith)) r
 in_front (f ∷ fs) gs line (suc i) h r =
     on_right f (fs ++ gs) line i (in_front fs gs (drop f.width line) i (omega arith)
-    (subst (λ l. FieldRight fs l i) (drop-take f.width (widths fs) line) (off_right f fs (take (f.width + widths fs) line) i r)))
+    (subst (λ l. FieldRight fs l i) (drop-take f.width (width_of fs) line) (off_right f fs (take (f.width + width_of fs) line) i r)))
 
-from_front : (fs gs : List Field) (line : List ℕ) (i : ℕ) → i < length fs → FieldRight (fs ++ gs) line i → FieldRight fs (take (widths fs) line) i
+from_front : (fs gs : List Field) (line : List ℕ) (i : ℕ) → i < length fs → FieldRight (fs ++ gs) line i → FieldRight fs (take (width_of fs) line) i
 from_front [] gs line i h r = absurd (omega arith)
-from_front (f ∷ fs) gs line zero h r = subst (Right f.rule) (sym (take-take f.width (f.width + widths fs) line (omega arith))) r
+from_front (f ∷ fs) gs line zero h r = subst (Right f.rule) (sym (take-take f.width (f.width + width_of fs) line (omega arith))) r
 from_front (f ∷ fs) gs line (suc i) h r =
-    on_right f fs (take (f.width + widths fs) line) i
-    (subst (λ l. FieldRight fs l i) (sym (drop-take f.width (widths fs) line)) (from_front fs gs (drop f.width line) i (omega arith) (off_right f (fs ++ gs) line i r)))
+    on_right f fs (take (f.width + width_of fs) line) i
+    (subst (λ l. FieldRight fs l i) (sym (drop-take f.width (width_of fs) line)) (from_front fs gs (drop f.width line) i (omega arith) (off_right f (fs ++ gs) line i r)))
 
 columns_front : (fs gs : List Field) (i : ℕ) → i < length fs → columns_before (fs ++ gs) i ≡ columns_before fs i
 columns_front [] gs i h = absurd (omega arith)
@@ -112,36 +109,36 @@ columns_front (f ∷ fs) gs zero h = refl
 columns_front (f ∷ fs) gs (suc i) h = ap (λ k. f.width + k) (columns_front fs gs i (omega arith))
 
 -- a line of one field more, with the front split off behind them all
-module _ (f : Field) (fs : List Field) (line : List ℕ) (all : AllRight (f ∷ fs) (take (f.width + widths fs) line)) where
+module _ (f : Field) (fs : List Field) (line : List ℕ) (all : AllRight (f ∷ fs) (take (f.width + width_of fs) line)) where
   head_right : Right f.rule (take f.width line)
-  head_right = subst (Right f.rule) (take-take f.width (f.width + widths fs) line (omega arith)) (all_first f fs (take (f.width + widths fs) line) all)
+  head_right = subst (Right f.rule) (take-take f.width (f.width + width_of fs) line (omega arith)) (all_first f fs (take (f.width + width_of fs) line) all)
 
-  tail_right : AllRight fs (take (widths fs) (drop f.width line))
-  tail_right = subst (AllRight fs) (drop-take f.width (widths fs) line) (all_rest f fs (take (f.width + widths fs) line) all)
+  tail_right : AllRight fs (take (width_of fs) (drop f.width line))
+  tail_right = subst (AllRight fs) (drop-take f.width (width_of fs) line) (all_rest f fs (take (f.width + width_of fs) line) all)
 
-append_right : (fs gs : List Field) (line : List ℕ) → AllRight fs (take (widths fs) line) → AllRight gs (drop (widths fs) line) → AllRight (fs ++ gs) line
+append_right : (fs gs : List Field) (line : List ℕ) → AllRight fs (take (width_of fs) line) → AllRight gs (drop (width_of fs) line) → AllRight (fs ++ gs) line
 append_right [] gs line a b = b
 append_right (f ∷ fs) gs line a b =
     all_more f (fs ++ gs) line (head_right f fs line a)
-    (append_right fs gs (drop f.width line) (tail_right f fs line a) (subst (AllRight gs) (sym (drop-drop (widths fs) f.width line)) b))
+    (append_right fs gs (drop f.width line) (tail_right f fs line a) (subst (AllRight gs) (sym (drop-drop (width_of fs) f.width line)) b))
 
-append_wrong : (fs gs : List Field) (line : List ℕ) (first next column : ℕ) → next ≡ first + widths fs → AllRight fs (take (widths fs) line) → WrongFrom next gs (drop (widths fs) line) column → WrongFrom first (fs ++ gs) line column
+append_wrong : (fs gs : List Field) (line : List ℕ) (first next column : ℕ) → next ≡ first + width_of fs → AllRight fs (take (width_of fs) line) → WrongFrom next gs (drop (width_of fs) line) column → WrongFrom first (fs ++ gs) line column
 append_wrong [] gs line first next column n a b = let e : next ≡ first = omega arith in subst (λ k. WrongFrom k gs line column) e b
 append_wrong (f ∷ fs) gs line first next column n a b =
     wrong_more f (fs ++ gs) first column (record { front = refl; back = refl }) (head_right f fs line a)
     (append_wrong fs gs (drop f.width line) (first + f.width) next column (omega arith) (tail_right f fs line a)
-    (subst (λ l. WrongFrom next gs l column) (sym (drop-drop (widths fs) f.width line)) b))
+    (subst (λ l. WrongFrom next gs l column) (sym (drop-drop (width_of fs) f.width line)) b))
 
 -- some fields that are right, and then the others
-pub right_append : (fs gs : List Field) {line part rest : List ℕ} → Split (widths fs) line part rest → AllRight fs part → AllRight gs rest → AllRight (fs ++ gs) line
+pub right_append : (fs gs : List Field) {line part rest : List ℕ} → Split (width_of fs) line part rest → AllRight fs part → AllRight gs rest → AllRight (fs ++ gs) line
 right_append fs gs {line} s a b = append_right fs gs line (subst (AllRight fs) s.front a) (subst (AllRight gs) s.back b)
 
-pub wrong_append : (fs gs : List Field) {line part rest : List ℕ} (first column : ℕ) → Split (widths fs) line part rest → AllRight fs part → WrongFrom (first + widths fs) gs rest column → WrongFrom first (fs ++ gs) line column
+pub wrong_append : (fs gs : List Field) {line part rest : List ℕ} (first column : ℕ) → Split (width_of fs) line part rest → AllRight fs part → WrongFrom (first + width_of fs) gs rest column → WrongFrom first (fs ++ gs) line column
 wrong_append fs gs {line} first column s a b =
-    append_wrong fs gs line first (first + widths fs) column refl (subst (AllRight fs) s.front a) (subst (λ l. WrongFrom (first + widths fs) gs l column) s.back b)
+    append_wrong fs gs line first (first + width_of fs) column refl (subst (AllRight fs) s.front a) (subst (λ l. WrongFrom (first + width_of fs) gs l column) s.back b)
 
 -- one of the first fields is wrong
-pub wrong_part : (fs gs : List Field) {line part rest : List ℕ} (first column : ℕ) → Split (widths fs) line part rest → WrongFrom first fs part column → WrongFrom first (fs ++ gs) line column
+pub wrong_part : (fs gs : List Field) {line part rest : List ℕ} (first column : ℕ) → Split (width_of fs) line part rest → WrongFrom first fs part column → WrongFrom first (fs ++ gs) line column
 wrong_part fs gs {line} first column s w =
     let v = w.1 in
     let there : v.place < length (fs ++ gs) = simp length-append (omega (arith, v.there)) in (

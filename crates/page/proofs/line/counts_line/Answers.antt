@@ -1,22 +1,11 @@
 -- The first line, split into its two numbers and its end.
-use Rattle.std.proofs.Common.{◌≡◌, ℕ, ◌<◌, List, [], ◌∷◌, ◌++◌, length, get_or, drop, Ok, sym, ap, ◌∙◌, arith}
-use Rattle.std.proofs.lemmas.List.{take_all}
+use Rattle.std.proofs.Common.{◌≡◌, ℕ, ◌<◌, List, [], ◌∷◌, length, get_or, arith}
 use Rattle.std.proofs.lemmas.Result.{IfOk-from_err}
-use Rattle.columns.specs.Columns.{column}
-use Rattle.page.specs.Faults.{AllRight, Counts}
 use Rattle.page.specs.Layout.{counts}
 use Rattle.page.specs.Readers.{FieldTold, NumberTold, WrongFrom}
 use Rattle.page.specs.Rules.{Field, Right, letter, number, number_field, newline_field, fields}
-use Rattle.page.proofs.Lists.{column_from_shows}
-use Rattle.page.proofs.Reading.{Split, kept_value, field_exit, split_whole, right_more, wrong_more, wrong_now, first_byte, letter_split, number_right}
-use Rattle.page.proofs.Scan.{all_none}
+use Rattle.page.proofs.Reading.{Split, kept_value, field_exit, wrong_more, wrong_now, letter_split, number_right}
 use Rattle.page.proofs.line.counts_line.Goals as goal
-
--- one byte that is a newline
-newline_alone : (field : List ℕ) → length field ≡ 1 → Right (letter (10 ∷ [])) (get_or field 0 0 ∷ []) → field ≡ 10 ∷ []
-newline_alone field one (i, h, e) =
-    let z : i ≡ 0 = omega arith in
-    sym (take_all 1 field (omega arith)) ∙ (sym (first_byte field (omega arith)) ∙ (e ∙ ap (λ j. get_or (10 ∷ []) j 0 ∷ []) z))
 
 abbrev count : Field
 count = number_field 1 512
@@ -30,20 +19,6 @@ module _ {line first middle second last : List ℕ} (a : Split 5 line first midd
   end_wrong some r s n =
       wrong_more count (count ∷ newline_field ∷ []) 1 11 a r
       (wrong_more count (newline_field ∷ []) 6 11 b s (wrong_now newline_field [] 11 (letter_split last some) n))
-
-  line_right : 0 < length last → Right (number 1 512) first → Right (number 1 512) second → Right (letter (10 ∷ [])) (get_or last 0 0 ∷ []) → AllRight (fields 0 counts line) line
-  line_right some r s t =
-      right_more count (count ∷ newline_field ∷ []) a r
-      (right_more count (newline_field ∷ []) b s (right_more newline_field [] (letter_split last some) t (all_none (drop 1 last))))
-
-  line_counts : (l n : ℕ) → length line ≡ 11 → length first ≡ 5 → length second ≡ 5 → length last ≡ 1 → NumberTold 1 512 first (Ok l) → NumberTold 1 512 second (Ok n) → Right (letter (10 ∷ [])) (get_or last 0 0 ∷ []) → Counts line l n
-  line_counts l n whole five five2 one r s t = record {
-    materials = (r.1, r.2);
-    units = (s.1, s.2);
-    shown =
-        take_all 11 line (omega arith) ∙ (split_whole a ∙ (ap (λ p. p ++ middle) (column_from_shows first l five r.0)
-        ∙ ap (λ p. column 5 l ++ p) (split_whole b ∙ (ap (λ p. p ++ last) (column_from_shows second n five2 s.0) ∙ ap (λ p. column 5 n ++ p) (newline_alone last one t)))));
-  }
 
 pub returns-in_err-units : goal.returns-in_err-units
 returns-in_err-units c =
@@ -72,22 +47,4 @@ returns-in_err-at_column c =
           (λ f n. end_wrong (record { front = c.split_at.ensures.front; back = c.split_at.ensures.back }) (record { front = c.split_at-2.ensures.front; back = c.split_at-2.ensures.back })
           (omega arith) (number_right 1 512 first c.in_ok-materials.materials m) (number_right 1 512 second c.in_ok-units.units u) n);
       counted = IfOk-from_err c.from_residual-in_err-at_column.result _ c.from_residual-in_err-at_column.ensures.0;
-    }
-
-pub returns : goal.returns
-returns c =
-    let line = c.args.line.now in
-    let first = c.split_at.result.0.now in
-    let middle = c.split_at.result.1.now in
-    let second = c.split_at-2.result.0.now in
-    let last = c.split_at-2.result.1.now in
-    let m = kept_value (NumberTold 1 512 first) 1 c.count_in.result c.in_ok-materials.materials c.in_ok-materials.ensures c.count_in.ensures in
-    let u = kept_value (NumberTold 1 512 second) 6 c.count_in-2.result c.in_ok-units.units c.in_ok-units.ensures c.count_in-2.ensures in
-    let end = kept_value (FieldTold (letter (10 ∷ [])) (get_or last 0 0 ∷ [])) 11 c.newline_in.result c.in_ok-at_column.field-0 c.in_ok-at_column.ensures c.newline_in.ensures in
-    let one : length last ≡ 1 = omega (arith, c.requires, c.split_at.ensures.back_len, c.split_at-2.ensures.back_len) in
-    let a : Split 5 line first middle = record { front = c.split_at.ensures.front; back = c.split_at.ensures.back } in
-    let b : Split 5 middle second last = record { front = c.split_at-2.ensures.front; back = c.split_at-2.ensures.back } in
-    record {
-      told = line_right a b (omega arith) (number_right 1 512 first c.in_ok-materials.materials m) (number_right 1 512 second c.in_ok-units.units u) end;
-      counted = line_counts a b c.in_ok-materials.materials c.in_ok-units.units c.requires c.split_at.ensures.front_len c.split_at-2.ensures.front_len one m u end;
     }

@@ -2,14 +2,9 @@
 use Rattle.std.proofs.Common.{◌+◌, ◌*◌, sym, ap, ◌∙◌, subst}
 use Rattle.page.specs.Layout.{number_width}
 use Rattle.page.specs.Readers.{EntryTold, WrongFrom}
-use Rattle.page.proofs.Entries.{none_read, entry_again, entry_fault, all_read}
+use Rattle.page.proofs.Entries.{entry_again, entry_fault, all_read}
 use Rattle.page.proofs.Reading.{kept_value, list_exit}
 use Rattle.page.proofs.line.list_in.Goals as goal
-
-pub loop-i-init : goal.loop-i-init
-loop-i-init c =
-    rw (c.into_iter-i-iterator.ensures.into_iter_gives, c.enumerate-i-items.ensures.count, c.enumerate-i-items.ensures.source)
-    (none_read c.args.highest c.args.list.now _ _ c.chunks_exact.ensures.size c.chunks_exact.ensures.rest)
 
 pub returns-in_err-above : goal.returns-in_err-above
 returns-in_err-above c =
