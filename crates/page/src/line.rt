@@ -10,8 +10,8 @@ use crate::field::{
     FieldFault, class_in, count_in, entry_in, highest_named, newline_in, running_in,
 };
 use crate::layout::{
-    COUNTS_END, INPUTS_COLUMN, LETTER_COLUMN, LIST, MATERIAL_END, MATERIALS_COLUMN,
-    NUMBER, NUMBER_COLUMN, OUTPUTS_COLUMN, UNIT_END, UNITS_COLUMN,
+    COUNTS_END, INPUTS_COLUMN, LETTER_COLUMN, LIST, MATERIAL_END, MATERIALS_COLUMN, NUMBER,
+    NUMBER_COLUMN, OUTPUTS_COLUMN, UNIT_END, UNITS_COLUMN,
 };
 
 // The column, counted from 1, at which the first field begins that does not keep to its rule.

@@ -32,7 +32,10 @@ fn whole_line(bytes: &[u8], start: usize, width: usize, line: u16) -> Result<&[u
 }
 
 // Checks lines numbered from 1 to `count`, one after another, each by `check_line`.
-fn each_line<F: Fn(u16) -> Result<(), PageFault>>(count: u16, check_line: F) -> Result<(), PageFault>
+fn each_line<F: Fn(u16) -> Result<(), PageFault>>(
+    count: u16,
+    check_line: F,
+) -> Result<(), PageFault>
     requires { (number : ℕ) → 1 ≤ number → number ≤ count → F.pre check_line number }
     ensures { EachAnswered (F.post check_line) count result }
 {
