@@ -26,9 +26,6 @@ abbrev behind_number : ℕ → List ℕ → List Field
 behind_number l line = ins l line ++ behind_ins l line
 
 module _ (l k : ℕ) {line first rest : List ℕ} (a : Split 1 line first rest) where
-  pub letter_wrong : (Right (letter state) first → ⊥) → WrongFrom 1 (fields l (unit k) line) line 1
-  letter_wrong n = wrong_now (letter_field state) (number_field k k ∷ behind_number l line) 1 a n
-
   module _ (r : Right (letter state) first) {shown lists : List ℕ} (b : Split 5 rest shown lists) where
     pub number_wrong : (Right (number k k) shown → ⊥) → WrongFrom 1 (fields l (unit k) line) line 2
     number_wrong n = wrong_more (letter_field state) (number_field k k ∷ behind_number l line) 1 2 a r (wrong_now (number_field k k) (behind_number l line) 2 b n)

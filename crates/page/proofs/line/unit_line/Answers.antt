@@ -3,15 +3,8 @@ use Rattle.std.proofs.Common.{◌≡◌, ◌<◌, cond, eqb, [], ◌∷◌, leng
 use Rattle.page.specs.Readers.{FieldTold, NumberTold, LineTold}
 use Rattle.page.specs.Rules.{letter}
 use Rattle.page.proofs.Reading.{Split, kept_value, at_exit, field_exit, told_last, whole_line, length_rest, letter_rest, number_right}
-use Rattle.page.proofs.UnitLine.{state, letter_wrong, number_wrong, inputs_wrong, outputs_wrong, end_wrong, line_right}
+use Rattle.page.proofs.UnitLine.{state, number_wrong, inputs_wrong, outputs_wrong, end_wrong, line_right}
 use Rattle.page.proofs.line.unit_line.Goals as goal
-
-pub returns-in_err-highest : goal.returns-in_err-highest
-returns-in_err-highest c =
-    let line = c.args.line.now in
-    field_exit (FieldTold (letter state) (get_or line 0 0 ∷ [])) _ line 1 c.highest_named.result c.in_err-highest.field-0.0 c.from_residual.result
-    c.in_err-highest.ensures c.highest_named.ensures.told c.from_residual.ensures.1
-    (λ f n. letter_wrong c.args.materials c.args.number (letter_rest line (omega (arith, c.requires))) n)
 
 pub returns-in_err-at_column : goal.returns-in_err-at_column
 returns-in_err-at_column c =
