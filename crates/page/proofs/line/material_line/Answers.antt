@@ -1,5 +1,5 @@
 -- A material's line, split into its letter, its number and its end.
-use Rattle.std.proofs.Common.{ℕ, ◌<◌, List, [], ◌∷◌, length, get_or, drop, arith}
+use Rattle.std.proofs.Common.{ℕ, ◌<◌, List, [], ◌∷◌, length, get_or, drop, arith, rules}
 use Rattle.page.specs.Faults.{AllRight}
 use Rattle.page.specs.Layout.{material}
 use Rattle.page.specs.Readers.{FieldTold, NumberTold, WrongFrom}
@@ -25,6 +25,10 @@ module _ (k : ℕ) {line first middle shown last : List ℕ} (a : Split 1 line f
   line_right some r s t =
       right_more (letter_field class) (number_field k k ∷ newline_field ∷ []) a r
       (right_more (number_field k k) (newline_field ∷ []) b s (right_more newline_field [] (letter_split last some) t (all_none (drop 1 last))))
+
+-- the exit of a wrong letter comes first
+pub returns-in_err-at_column : goal.returns-in_err-at_column
+returns-in_err-at_column c = search rules
 
 pub returns-in_err-at_column-2 : goal.returns-in_err-at_column-2
 returns-in_err-at_column-2 c =
