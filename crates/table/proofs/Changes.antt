@@ -1,23 +1,25 @@
--- What each edit says of the rows: where it is declined, and where a row is written.
-use Rattle.std.proofs.Common.{◌≡◌, ℕ, ◌-◌, Bool, true, false, cond, not, ◌&&◌, ◌⊎◌, List, length, set, Some, None, Ok, Err, Option, Result, sym, refl, ap, ◌∙◌, subst, ⊎_elim}
-use Rattle.std.proofs.lemmas.Bool.{false≢true, cond-true, cond-false, not_from_true, not_from_false, and_parts, and_from, and_left, and_right}
+-- What each edit says of the table: where it is declined, and where a row is written.
+use Rattle.std.proofs.Common.{◌≡◌, ℕ, ◌-◌, min, Bool, true, false, cond, not, ◌&&◌, List, length, set, Some, None, Ok, Err, Option, Result, sym, refl, ap, ◌∙◌, subst}
+use Rattle.std.proofs.lemmas.Bool.{cond-true, cond-false, not_from_true, not_from_false, and_parts, and_left, false≢true}
+use Rattle.std.proofs.lemmas.Option.{cond_some}
 use Rattle.book.specs.declared.Refusal.{Refusal}
 use Rattle.book.specs.declared.Refusal.TheVariants.{OutOfRange, BadList, NotFree, NotStanding, NotWithheld}
-use Rattle.book.specs.Meaning.{Material, Fitted, UnitState, free, standing, Meaning, unit_count}
+use Rattle.book.specs.declared.books.Class.{Class}
+use Rattle.book.specs.declared.books.State.{State}
+use Rattle.book.specs.declared.books.State.TheVariants.{Free, Standing, Withheld}
+use Rattle.book.specs.Meaning.{Fitted, free, standing, Meaning, material_count, unit_count}
 use Rattle.book.specs.Refusals.{first_refusal}
 use Rattle.book.specs.Declined.{inside, fitting, state_at, is_free, is_standing, is_withheld, withheld_at}
-use Rattle.book.specs.Edits.{Edit, with_unit, hidden_state, shown_state, fit_edit, class_edit, hide_edit, show_edit, clear_edit}
-use Rattle.table.specs.declared.rows.MaterialRow.{MaterialRow}
+use Rattle.book.specs.Edits.{Edit, Edited, with_unit, hidden_state, shown_state, fit_edit, class_edit, hide_edit, show_edit, clear_edit}
+use Rattle.table.specs.declared.TableBook.{TableBook}
 use Rattle.table.specs.declared.rows.UnitRow.{UnitRow}
-use Rattle.table.specs.declared.rows.RowState.{RowState}
-use Rattle.table.specs.declared.rows.RowState.TheVariants.{Free, Standing, Withheld}
-use Rattle.table.specs.Rows.{material_in, fitted_in, in_state, state_in, row_in, restated, units_book, entries_of, fitted_row, row_of, Exact, MaterialsEdited, UnitsEdited}
-use Rattle.table.specs.WellFormed.{count_units}
-use Rattle.table.specs.Tables.{rows_keep}
+use Rattle.table.specs.Rows.{most_rows, used, material_in, fitted_in, list_in, in_state, state_in, materials_in, units_in, entries_of, fitted_row, row_of, Exact}
+use Rattle.table.specs.WellFormed.{count_materials, count_units}
+use Rattle.table.specs.Tables.{table_meaning, TableKept, rows_keep}
 use Rattle.table.proofs.Climbs.{list_in_entries}
-use Rattle.table.proofs.Places.{place_of, placed, some_when, none_when}
-use Rattle.table.proofs.Seen.{row_inside, row_outside, row_read, state_by}
-use Rattle.table.proofs.Written.{rows_written, material_written, unit_written, ExactRow, exact_written, exact_at, standing_holds, withheld_holds, restated_exact}
+use Rattle.table.proofs.Places.{place_of, placed, not_placed}
+use Rattle.table.proofs.Seen.{row_in, row_read}
+use Rattle.table.proofs.Written.{rows_written, read_written, ExactRow, exact_written, exact_at, restated, standing_holds, withheld_holds, restated_exact}
 
 -- the first refusal of several: one for a failed test is given where the test fails, and passed over where it holds
 declined : (test : Bool) (e : Refusal) (rest : Option Refusal) → test ≡ false → cond (not test) (Some e) rest ≡ Some e
@@ -26,170 +28,182 @@ declined test e rest h = cond-true _ _ _ (not_from_false test h)
 passed : (test : Bool) (e : Refusal) (rest : Option Refusal) → test ≡ true → cond (not test) (Some e) rest ≡ rest
 passed test e rest h = cond-false _ _ _ (not_from_true test h)
 
--- class
-module _ (rows : List MaterialRow) (k : ℕ) (w b : Bool) where
-  pub class_outside : None ≡ place_of k (length rows) → MaterialsEdited (class_edit k w b) rows rows (Err OutOfRange)
-  class_outside h = record {
-    told = λ us. (declined _ OutOfRange _ (row_outside material_in rows k h), refl);
-    held = rows_keep rows;
-  }
+-- an edit that is refused leaves the table as it is
+pub refused : (t : TableBook) (edit : Meaning → Edit) (e : Refusal) (answer : Result (Unit {0}) Refusal) → answer ≡ Err e → first_refusal (edit (table_meaning t)).reasons ≡ Some e → Edited table_meaning edit t t answer
+refused t edit e answer is first = subst (Edited table_meaning edit t t) (sym is) (first, refl)
 
-  pub class_accepted : (i : ℕ) → Some i ≡ place_of k (length rows) → MaterialsEdited (class_edit k w b) rows (set rows i (record { wanted = w; bought = b })) (Ok tt)
-  class_accepted i h = record {
-    told = λ us. (passed _ OutOfRange _ (row_inside material_in rows k i h), material_written us rows k i h _);
-    held = rows_written rows k i h _;
-  }
+-- a number with no row is out of range
+pub class_outside : (t : TableBook) (k : ℕ) (w b : Bool) → None ≡ place_of k (length t.materials.now) → first_refusal (class_edit k w b (table_meaning t)).reasons ≡ Some OutOfRange
+class_outside t k w b h = declined _ OutOfRange None (ap (inside k) (count_materials t.materials.now) ∙ not_placed k (length t.materials.now) h)
 
--- an edit of units that is refused, and one that writes the row of number k
-refused : (l : ℕ) (edit : Meaning → Edit) (rows : List UnitRow) (e : Refusal) → ((ms : List Material) → length ms ≡ l → first_refusal (edit (units_book ms l rows)).reasons ≡ Some e) → UnitsEdited l edit rows rows (Err e)
-refused l edit rows e first = record { told = λ ms n. (first ms n, refl); held = rows_keep rows; exact = λ x. x }
+module _ (t : TableBook) (k : ℕ) (h : None ≡ place_of k (length t.units.now)) where
+  pub unit_outside : inside k (unit_count (table_meaning t)) ≡ false
+  unit_outside = ap (inside k) (count_units (used t.materials.now) t.units.now) ∙ not_placed k (length t.units.now) h
 
-accepted : (l : ℕ) (edit : Meaning → Edit) (rows : List UnitRow) (k i : ℕ) → Some i ≡ place_of k (length rows) → (row : UnitRow)
-    → ((ms : List Material) → length ms ≡ l → first_refusal (edit (units_book ms l rows)).reasons ≡ None)
-    → ((ms : List Material) → (edit (units_book ms l rows)).made ≡ with_unit (units_book ms l rows) k (state_in l row))
-    → (Exact l rows → ExactRow l row)
-    → UnitsEdited l edit rows (set rows i row) (Ok tt)
-accepted l edit rows k i h row none made exact = record {
-  told = λ ms n. (none ms n, unit_written ms l rows k i h row ∙ sym (made ms));
-  held = rows_written rows k i h row;
-  exact = λ e. exact_written l rows i e row (exact e);
+  pub withheld_outside : withheld_at (table_meaning t) k ≡ false
+  withheld_outside = and_left _ _ unit_outside
+
+  pub hide_outside : first_refusal (hide_edit k (table_meaning t)).reasons ≡ Some OutOfRange
+  hide_outside = declined _ OutOfRange _ unit_outside
+
+  pub fit_outside : (f : Fitted) → first_refusal (fit_edit k f (table_meaning t)).reasons ≡ Some OutOfRange
+  fit_outside f = declined _ OutOfRange _ unit_outside
+
+-- the table with other rows in one of its memories
+abbrev pub with_materials : TableBook → List Class → TableBook
+with_materials t rows = record {
+  materials = record { ref_ptr = t.materials.ref_ptr; ghost_name = t.materials.ghost_name; now = rows };
+  units = t.units;
 }
 
--- what is said of rows is said of equal ones
-pub said_of : (l : ℕ) (edit : Meaning → Edit) (rows : List UnitRow) (r : Result (Unit {0}) Refusal) {a b : List UnitRow} → b ≡ a → UnitsEdited l edit rows a r → UnitsEdited l edit rows b r
-said_of l edit rows r same e = subst (λ (after : List UnitRow). UnitsEdited l edit rows after r) (sym same) e
+abbrev pub with_units : TableBook → List UnitRow → TableBook
+with_units t rows = record {
+  materials = t.materials;
+  units = record { ref_ptr = t.units.ref_ptr; ghost_name = t.units.ghost_name; now = rows };
+}
 
--- a number with no row
-module _ (l : ℕ) (rows : List UnitRow) (k : ℕ) (h : None ≡ place_of k (length rows)) where
-  outside : (ms : List Material) → inside k (unit_count (units_book ms l rows)) ≡ false
-  outside ms = row_outside (state_in l) rows k h
+-- what an accepted edit owes of the table
+pub record Accepted (edit : Meaning → Edit) (before after : TableBook) : Type 0 where
+  pub told : Edited table_meaning edit before after (Ok tt)
+  pub held : TableKept before after
 
-  pub fit_outside : (f : Fitted) → UnitsEdited l (fit_edit k f) rows rows (Err OutOfRange)
-  fit_outside f = refused l (fit_edit k f) rows OutOfRange (λ ms _. declined _ OutOfRange _ (outside ms))
+module _ (t : TableBook) (k i : ℕ) (h : Some i ≡ place_of k (length t.materials.now)) where
+  -- the row of a material is written
+  pub class_accepted : (class : Class) → Accepted (class_edit k class.wanted class.bought) t (with_materials t (set t.materials.now i class))
+  class_accepted class =
+      let p = placed k (length t.materials.now) i h in
+      let kept = rows_written t.materials.now i p.few class in
+      let same : used (set t.materials.now i class) ≡ used t.materials.now = ap (min most_rows) kept.size in
+      let within : inside k (material_count (table_meaning t)) ≡ true = ap (inside k) (count_materials t.materials.now) ∙ p.used in
+      record {
+        told = (
+          passed _ OutOfRange None within,
+          ap (λ ms. record { materials = ms; units = units_in (used (set t.materials.now i class)) t.units.now })
+              (read_written t.materials.now i p.few class material_in ∙ ap (λ j. set (materials_in t.materials.now) j (material_in class)) p.is)
+              ∙ ap (λ l. record { materials = set (materials_in t.materials.now) (k - 1) (material_in class); units = units_in l t.units.now }) same,
+        );
+        held = record {
+          materials_there = refl;
+          units_there = refl;
+          materials_kept = kept;
+          units_kept = rows_keep t.units.now;
+          exact = λ e. subst (λ l. Exact l t.units.now) (sym same) e;
+        };
+      }
 
-  pub hide_outside : UnitsEdited l (hide_edit k) rows rows (Err OutOfRange)
-  hide_outside = refused l (hide_edit k) rows OutOfRange (λ ms _. declined _ OutOfRange _ (outside ms))
+module _ (t : TableBook) (k i : ℕ) (h : Some i ≡ place_of k (length t.units.now)) where
+  within : inside k (unit_count (table_meaning t)) ≡ true
+  within = ap (inside k) (count_units (used t.materials.now) t.units.now) ∙ (placed k (length t.units.now) i h).used
 
-  pub withheld_outside : (ms : List Material) → withheld_at (units_book ms l rows) k ≡ false
-  withheld_outside ms = and_left _ _ (outside ms)
+  -- what is known of a number is in its row
+  pub state_read : state_at (table_meaning t) k ≡ state_in (used t.materials.now) (row_in t.units.now i)
+  state_read =
+      let p = placed k (length t.units.now) i h in
+      row_read (state_in (used t.materials.now)) t.units.now k free _ p.used ∙ ap (λ j. state_in (used t.materials.now) (row_in t.units.now j)) (sym p.is)
 
--- a number with a row
-module _ (l : ℕ) (rows : List UnitRow) (k i : ℕ) (h : Some i ≡ place_of k (length rows)) where
-  within : (ms : List Material) → inside k (unit_count (units_book ms l rows)) ≡ true
-  within ms = row_inside (state_in l) rows k i h
+  state_is : (s : State) → (row_in t.units.now i).state ≡ s → state_at (table_meaning t) k ≡ in_state s (fitted_in (used t.materials.now) (row_in t.units.now i))
+  state_is s is = state_read ∙ ap (λ u. in_state u (fitted_in (used t.materials.now) (row_in t.units.now i))) is
 
-  -- what is known of it, where the state of its row is
-  state_is : (s : RowState) → (row_in rows i).state ≡ s → (ms : List Material) → state_at (units_book ms l rows) k ≡ in_state s (fitted_in l (row_in rows i))
-  state_is s is ms = row_read (state_in l) rows k free i _ h ∙ state_by l (row_in rows i) s is
+  row_exact : Exact (used t.materials.now) t.units.now → ExactRow (used t.materials.now) (row_in t.units.now i)
+  row_exact e =
+      let p = placed k (length t.units.now) i h in
+      exact_at (used t.materials.now) t.units.now i p.few e p.here
 
-  state_other : (f : UnitState → Bool) (s t : RowState) → ((x : Fitted) → f (in_state s x) ≡ false) → ((x : Fitted) → f (in_state t x) ≡ false) → ((row_in rows i).state ≡ s) ⊎ ((row_in rows i).state ≡ t) → (ms : List Material) → f (state_at (units_book ms l rows) k) ≡ false
-  state_other f s t of-s of-t is ms =
-      ⊎_elim (λ (e : (row_in rows i).state ≡ s). ap f (state_is s e ms) ∙ of-s _)
-      (λ (e : (row_in rows i).state ≡ t). ap f (state_is t e ms) ∙ of-t _)
-      is
+  -- an edit that writes the number's row
+  accepted : (edit : Meaning → Edit) (row : UnitRow)
+      → first_refusal (edit (table_meaning t)).reasons ≡ None
+      → (edit (table_meaning t)).made ≡ with_unit (table_meaning t) k (state_in (used t.materials.now) row)
+      → (Exact (used t.materials.now) t.units.now → ExactRow (used t.materials.now) row)
+      → Accepted edit t (with_units t (set t.units.now i row))
+  accepted edit row none made exact =
+      let p = placed k (length t.units.now) i h in
+      let l = used t.materials.now in
+      record {
+        told = (
+          none,
+          ap (λ us. record { materials = materials_in t.materials.now; units = us })
+              (read_written t.units.now i p.few row (state_in l) ∙ ap (λ j. set (units_in l t.units.now) j (state_in l row)) p.is)
+              ∙ sym made,
+        );
+        held = record {
+          materials_there = refl;
+          units_there = refl;
+          materials_kept = rows_keep t.materials.now;
+          units_kept = rows_written t.units.now i p.few row;
+          exact = λ e. exact_written l t.units.now i p.few e row (exact e);
+        };
+      }
 
-  row_exact : Exact l rows → ExactRow l (row_in rows i)
-  row_exact e = exact_at l rows i e (placed k (length rows) i h).here (placed k (length rows) i h).few
+  pub hide_refused : is_standing (state_in (used t.materials.now) (row_in t.units.now i)) ≡ false → first_refusal (hide_edit k (table_meaning t)).reasons ≡ Some NotStanding
+  hide_refused other = passed _ OutOfRange _ within ∙ declined _ NotStanding None (ap is_standing state_read ∙ other)
 
-  -- hide
-  pub hide_refused : ((row_in rows i).state ≡ Free) ⊎ ((row_in rows i).state ≡ Withheld) → UnitsEdited l (hide_edit k) rows rows (Err NotStanding)
-  hide_refused is =
-      refused l (hide_edit k) rows NotStanding
-      (λ ms _. passed _ OutOfRange _ (within ms) ∙ declined _ NotStanding _ (state_other is_standing Free Withheld (λ _. refl) (λ _. refl) is ms))
-
-  pub hide_accepted : (row_in rows i).state ≡ Standing → UnitsEdited l (hide_edit k) rows (set rows i (restated (row_in rows i) Withheld)) (Ok tt)
+  pub hide_accepted : (row_in t.units.now i).state ≡ Standing → Accepted (hide_edit k) t (with_units t (set t.units.now i (restated (row_in t.units.now i) Withheld)))
   hide_accepted is =
-      accepted l (hide_edit k) rows k i h (restated (row_in rows i) Withheld)
-      (λ ms _. passed _ OutOfRange _ (within ms) ∙ passed _ NotStanding _ (ap is_standing (state_is Standing is ms)))
-      (λ ms. ap (λ s. with_unit (units_book ms l rows) k (hidden_state s)) (state_is Standing is ms))
-      (λ e. restated_exact l (row_in rows i) Standing Withheld standing_holds withheld_holds is (row_exact e))
+      accepted (hide_edit k) (restated (row_in t.units.now i) Withheld)
+      (passed _ OutOfRange _ within ∙ passed _ NotStanding None (ap is_standing (state_is Standing is)))
+      (ap (λ s. with_unit (table_meaning t) k (hidden_state s)) (state_is Standing is))
+      (λ e. restated_exact (used t.materials.now) (row_in t.units.now i) Standing Withheld standing_holds withheld_holds is (row_exact e))
 
-  -- show and clear
-  pub withheld_here : (row_in rows i).state ≡ Withheld → (ms : List Material) → withheld_at (units_book ms l rows) k ≡ true
-  withheld_here is ms = and_from _ _ (within ms) (ap is_withheld (state_is Withheld is ms))
+  -- its place is told where the row says that the unit is withheld
+  pub withheld_told : cond (is_withheld (state_in (used t.materials.now) (row_in t.units.now i))) (Some i) None ≡ cond (withheld_at (table_meaning t) k) (Some (k - 1)) None
+  withheld_told =
+      let here : withheld_at (table_meaning t) k ≡ is_withheld (state_in (used t.materials.now) (row_in t.units.now i)) =
+      ap (λ b. b && is_withheld (state_at (table_meaning t) k)) within ∙ ap is_withheld state_read
+      in
+      ap (λ b. cond b (Some i) None) (sym here) ∙ ap (λ j. cond (withheld_at (table_meaning t) k) (Some j) None) (placed k (length t.units.now) i h).is
 
-  pub withheld_none : ((row_in rows i).state ≡ Free) ⊎ ((row_in rows i).state ≡ Standing) → (ms : List Material) → withheld_at (units_book ms l rows) k ≡ false
-  withheld_none is ms = and_right _ _ (state_other is_withheld Free Standing (λ _. refl) (λ _. refl) is ms)
+  -- fit
+  module _ (f : Fitted) where
+    pub fit_bad_list : (fitting (material_count (table_meaning t)) f.inputs && fitting (material_count (table_meaning t)) f.outputs) ≡ false → first_refusal (fit_edit k f (table_meaning t)).reasons ≡ Some BadList
+    fit_bad_list bad = passed _ OutOfRange _ within ∙ declined _ BadList _ bad
 
-  pub show_accepted : (row_in rows i).state ≡ Withheld → UnitsEdited l (show_edit k) rows (set rows i (restated (row_in rows i) Standing)) (Ok tt)
-  show_accepted is =
-      accepted l (show_edit k) rows k i h (restated (row_in rows i) Standing)
-      (λ ms _. passed _ NotWithheld _ (withheld_here is ms))
-      (λ ms. ap (λ s. with_unit (units_book ms l rows) k (shown_state s)) (state_is Withheld is ms))
-      (λ e. restated_exact l (row_in rows i) Withheld Standing withheld_holds standing_holds is (row_exact e))
+    module _ (good : (fitting (material_count (table_meaning t)) f.inputs && fitting (material_count (table_meaning t)) f.outputs) ≡ true) where
+      pub fit_not_free : is_free (state_in (used t.materials.now) (row_in t.units.now i)) ≡ false → first_refusal (fit_edit k f (table_meaning t)).reasons ≡ Some NotFree
+      fit_not_free other =
+          passed _ OutOfRange _ within ∙ passed _ BadList _ good ∙ declined _ NotFree None (ap is_free state_read ∙ other)
 
-  pub clear_accepted : (row_in rows i).state ≡ Withheld → UnitsEdited l (clear_edit k) rows (set rows i (row_of free)) (Ok tt)
-  clear_accepted is =
-      accepted l (clear_edit k) rows k i h (row_of free)
-      (λ ms _. passed _ NotWithheld _ (withheld_here is ms))
-      (λ ms. refl)
-      (λ e. refl)
+      reads_back : state_in (used t.materials.now) (fitted_row Standing f) ≡ standing f
+      reads_back =
+          let l = used t.materials.now in
+          let n = count_materials t.materials.now in
+          let p = and_parts _ _ good in
+          ap (λ xs. standing (record { inputs = xs; outputs = list_in l (entries_of f.outputs) })) (list_in_entries l f.inputs (sym (ap (λ m. fitting m f.inputs) n) ∙ p.0))
+          ∙ ap (λ ys. standing (record { inputs = f.inputs; outputs = ys })) (list_in_entries l f.outputs (sym (ap (λ m. fitting m f.outputs) n) ∙ p.1))
 
--- fit
-module _ (l : ℕ) (rows : List UnitRow) (k i : ℕ) (h : Some i ≡ place_of k (length rows)) (f : Fitted) where
-  -- the lists are tested in a table of l materials, however these are
-  tested : (ms : List Material) → length ms ≡ l → (b : Bool) → (fitting l f.inputs && fitting l f.outputs) ≡ b → (fitting (length ms) f.inputs && fitting (length ms) f.outputs) ≡ b
-  tested ms n b e = ap (λ m. fitting m f.inputs && fitting m f.outputs) n ∙ e
+      pub fit_accepted : (row_in t.units.now i).state ≡ Free → Accepted (fit_edit k f) t (with_units t (set t.units.now i (fitted_row Standing f)))
+      fit_accepted is =
+          accepted (fit_edit k f) (fitted_row Standing f)
+          (passed _ OutOfRange _ within ∙ passed _ BadList _ good ∙ passed _ NotFree None (ap is_free (state_is Free is)))
+          (ap (λ s. with_unit (table_meaning t) k s) (sym reads_back))
+          (λ e. sym (ap row_of reads_back))
 
-  pub fit_bad_list : (fitting l f.inputs && fitting l f.outputs) ≡ false → UnitsEdited l (fit_edit k f) rows rows (Err BadList)
-  fit_bad_list bad =
-      refused l (fit_edit k f) rows BadList
-      (λ ms n. passed _ OutOfRange _ (within l rows k i h ms) ∙ declined _ BadList _ (tested ms n false bad))
-
-  module _ (good : (fitting l f.inputs && fitting l f.outputs) ≡ true) where
-    pub fit_not_free : ((row_in rows i).state ≡ Standing) ⊎ ((row_in rows i).state ≡ Withheld) → UnitsEdited l (fit_edit k f) rows rows (Err NotFree)
-    fit_not_free is =
-        refused l (fit_edit k f) rows NotFree
-        (λ ms n.
-        passed _ OutOfRange _ (within l rows k i h ms)
-        ∙ passed _ BadList _ (tested ms n true good)
-        ∙ declined _ NotFree _ (state_other l rows k i h is_free Standing Withheld (λ _. refl) (λ _. refl) is ms))
-
-    reads_back : state_in l (fitted_row Standing f) ≡ standing f
-    reads_back =
-        let p = and_parts (fitting l f.inputs) (fitting l f.outputs) good in
-        ap (λ xs. standing (record { inputs = xs; outputs = (fitted_in l (fitted_row Standing f)).outputs })) (list_in_entries l f.inputs p.0)
-        ∙ ap (λ ys. standing (record { inputs = f.inputs; outputs = ys })) (list_in_entries l f.outputs p.1)
-
-    fit_row : (row_in rows i).state ≡ Free → UnitsEdited l (fit_edit k f) rows (set rows i (fitted_row Standing f)) (Ok tt)
-    fit_row is =
-        accepted l (fit_edit k f) rows k i h (fitted_row Standing f)
-        (λ ms n.
-        passed _ OutOfRange _ (within l rows k i h ms)
-        ∙ passed _ BadList _ (tested ms n true good)
-        ∙ passed _ NotFree _ (ap is_free (state_is l rows k i h Free is ms)))
-        (λ ms. ap (λ s. with_unit (units_book ms l rows) k s) (sym reads_back))
-        (λ e. sym (ap row_of reads_back))
-
-    pub fit_accepted : (xs ys : List ℕ) → xs ≡ entries_of f.inputs → ys ≡ entries_of f.outputs → (row_in rows i).state ≡ Free → UnitsEdited l (fit_edit k f) rows (set rows i (record { state = Standing; inputs = xs; outputs = ys })) (Ok tt)
-    fit_accepted xs ys are-inputs are-outputs is =
-        let written : record { state = Standing; inputs = xs; outputs = ys } ≡ fitted_row Standing f =
-        ap (λ zs. record { state = Standing; inputs = zs; outputs = ys }) are-inputs
-        ∙ ap (λ zs. record { state = Standing; inputs = entries_of f.inputs; outputs = zs }) are-outputs
-        in
-        said_of l (fit_edit k f) rows (Ok tt) (ap (set rows i) written) (fit_row is)
-
--- what the place of a withheld unit's row tells
-withheld_state : (s : RowState) (f : Fitted) → is_withheld (in_state s f) ≡ true → s ≡ Withheld
+-- the place of a withheld unit's row
+withheld_state : (s : State) (f : Fitted) → is_withheld (in_state s f) ≡ true → s ≡ Withheld
 withheld_state Free f h = absurd (false≢true h)
 withheld_state Standing f h = absurd (false≢true h)
 withheld_state Withheld f h = refl
 
-module _ (ms : List Material) (l : ℕ) (rows : List UnitRow) (k : ℕ) where
-  pub withheld_placed : (i : ℕ) → Some i ≡ cond (withheld_at (units_book ms l rows) k) (Some (k - 1)) None → (Some i ≡ place_of k (length rows)) × ((row_in rows i).state ≡ Withheld)
-  withheld_placed i e =
-      let w = some_when (withheld_at (units_book ms l rows) k) i (k - 1) e in
-      let p = and_parts (inside k (unit_count (units_book ms l rows))) (is_withheld (state_at (units_book ms l rows) k)) w.0 in
-      let h : Some i ≡ place_of k (length rows) = ap Some w.1 ∙ sym (cond-true _ _ _ (sym (ap (inside k) (count_units l rows)) ∙ p.0)) in
-      let known = row_read (state_in l) rows k free i _ h in
-      (h, withheld_state (row_in rows i).state (fitted_in l (row_in rows i)) (sym (ap is_withheld known) ∙ p.1))
+module _ (t : TableBook) (k i : ℕ) (e : Some i ≡ cond (withheld_at (table_meaning t) k) (Some (k - 1)) None) where
+  withheld_is : (withheld_at (table_meaning t) k ≡ true) × (k - 1 ≡ i)
+  withheld_is = cond_some _ (k - 1) i (sym e)
 
-  pub not_withheld : None ≡ cond (withheld_at (units_book ms l rows) k) (Some (k - 1)) None → withheld_at (units_book ms l rows) k ≡ false
-  not_withheld e = none_when (withheld_at (units_book ms l rows) k) (k - 1) e
+  withheld_placed : Some i ≡ place_of k (length t.units.now)
+  withheld_placed =
+      let p = and_parts _ _ withheld_is.0 in
+      ap Some (sym withheld_is.1) ∙ sym (cond-true _ _ _ (sym (ap (inside k) (count_units (used t.materials.now) t.units.now)) ∙ p.0))
 
-module _ (l : ℕ) (rows : List UnitRow) (k : ℕ) (h : (ms : List Material) → withheld_at (units_book ms l rows) k ≡ false) where
-  pub show_refused : UnitsEdited l (show_edit k) rows rows (Err NotWithheld)
-  show_refused = refused l (show_edit k) rows NotWithheld (λ ms _. declined _ NotWithheld _ (h ms))
+  withheld_row : (row_in t.units.now i).state ≡ Withheld
+  withheld_row =
+      let p = and_parts _ _ withheld_is.0 in
+      withheld_state _ _ (sym (ap is_withheld (state_read t k i withheld_placed)) ∙ p.1)
 
-  pub clear_refused : UnitsEdited l (clear_edit k) rows rows (Err NotWithheld)
-  clear_refused = refused l (clear_edit k) rows NotWithheld (λ ms _. declined _ NotWithheld _ (h ms))
+  pub show_accepted : Accepted (show_edit k) t (with_units t (set t.units.now i (restated (row_in t.units.now i) Standing)))
+  show_accepted =
+      accepted t k i withheld_placed (show_edit k) (restated (row_in t.units.now i) Standing)
+      (passed _ NotWithheld None withheld_is.0)
+      (ap (λ s. with_unit (table_meaning t) k (shown_state s)) (state_is t k i withheld_placed Withheld withheld_row))
+      (λ x. restated_exact (used t.materials.now) (row_in t.units.now i) Withheld Standing withheld_holds standing_holds withheld_row (row_exact t k i withheld_placed x))
+
+  pub clear_accepted : Accepted (clear_edit k) t (with_units t (set t.units.now i (row_of free)))
+  clear_accepted =
+      accepted t k i withheld_placed (clear_edit k) (row_of free) (passed _ NotWithheld None withheld_is.0) refl (λ x. refl)

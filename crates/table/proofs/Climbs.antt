@@ -1,9 +1,8 @@
--- Lists that climb: how a loop goes along one, when a list climbs as a whole, and what a row's entries stand for.
-use Rattle.std.proofs.Common.{◌≡◌, ℕ, zero, suc, ◌+◌, ◌-◌, ◌<◌, ◌≤◌, Bool, true, false, ◌&&◌, eqb, ltb, leb, ◌⊎◌, List, [], ◌∷◌, ◌++◌, length, get_or, take, drop, replicate, sym, refl, ap, ◌∙◌, inl, ⊎_elim, arith, length-append}
-use lib.ListN.{length-replicate}
-use Rattle.std.proofs.lemmas.List.{at_drop_more, take_all}
-use Rattle.std.proofs.lemmas.Bool.{and_left, and_right, and_from, and_parts, cond-true, cond-false, cond_both, le-ltb, lt-ltb, lt-leb, le-leb, leb-true, ne_eqb}
-use Rattle.std.proofs.lemmas.Bool.Decides.{nat_tests}
+-- Lists that climb: how a loop goes along one, and what a row's entries stand for.
+use Rattle.std.proofs.Common.{◌≡◌, ℕ, zero, suc, ◌+◌, ◌-◌, ◌<◌, ◌≤◌, Bool, ◌&&◌, ltb, leb, ◌⊎◌, List, [], ◌∷◌, ◌++◌, length, get_or, take, drop, replicate, sym, ap, ◌∙◌, refl, true, false, inl, ⊎_elim, append_assoc, arith, length-append}
+use Rattle.std.proofs.lemmas.List.{at_drop_more, take_more, take_all, drop_all, append-nil, length-replicate}
+use Rattle.std.proofs.lemmas.Bool.{and_left, and_right, and_from, and_parts, cond-true, cond-false, le-ltb, lt-ltb, lt-leb, le-leb, leb-true}
+use Rattle.std.proofs.Math.Bool.{and_assoc}
 use Rattle.book.specs.Declined.{climbs, fitting}
 use Rattle.book.specs.Climbing.{climbing}
 use Rattle.table.specs.Rows.{places, list_in, entries_of}
@@ -20,51 +19,35 @@ next_no last highest x =
     ⊎_elim (λ (h : x ≤ last). and_left (ltb last x) (leb x highest) (le-ltb last x h))
     (λ (h : highest < x). and_right (ltb last x) (leb x highest) (lt-leb x highest h))
 
--- a front stops at a number that may not come next, and goes on over one that may
-module _ (last highest : ℕ) (xs : List ℕ) (i : ℕ) (here : i < length xs) where
-  pub climbing_stops : (get_or xs i 0 ≤ last) ⊎ (highest < get_or xs i 0) → climbing last highest (drop i xs) ≡ []
-  climbing_stops h =
-      at_drop_more (climbing last highest) xs i 0 here ∙ cond-false _ _ _ (next_no last highest (get_or xs i 0) h)
+-- a walk along a list has passed i numbers, the last of them `last`: with the front of what is left they are the whole front
+abbrev pub Passed : (highest : ℕ) (xs : List ℕ) (last i : ℕ) → Type 0
+Passed highest xs last i = take i xs ++ climbing last highest (drop i xs) ≡ climbing 0 highest xs
 
-  pub climbing_on : last < get_or xs i 0 → get_or xs i 0 ≤ highest → climbing last highest (drop i xs) ≡ get_or xs i 0 ∷ climbing (get_or xs i 0) highest (drop (i + 1) xs)
-  climbing_on above below =
-      at_drop_more (climbing last highest) xs i 0 here ∙ cond-true _ _ _ (next_yes last highest (get_or xs i 0) above below)
+module _ (highest : ℕ) (xs : List ℕ) (last i : ℕ) (so_far : Passed highest xs last i) where
+  -- it stops at a number that may not come next, or at the end, and goes on over one that may
+  pub passed_stops : i < length xs → (get_or xs i 0 ≤ last) ⊎ (highest < get_or xs i 0) → take i xs ≡ climbing 0 highest xs
+  passed_stops here out =
+      let stop = at_drop_more (climbing last highest) xs i 0 here ∙ cond-false _ _ _ (next_no last highest (get_or xs i 0) out) in
+      sym (append-nil (take i xs)) ∙ ap (λ ys. take i xs ++ ys) (sym stop) ∙ so_far
 
--- a front has the list's own numbers
-climbing_get_or : (last highest : ℕ) (xs : List ℕ) (i : ℕ) → i < length (climbing last highest xs) → get_or (climbing last highest xs) i 0 ≡ get_or xs i 0
-climbing_get_or last highest [] i = λ h. refl
-climbing_get_or last highest (x ∷ xs) zero =
-    cond_both (next last highest x) (x ∷ climbing x highest xs) [] (λ ys. 0 < length ys → get_or ys 0 0 ≡ x)
-    (λ _ _. refl)
-    (λ _ h. absurd (omega arith))
-climbing_get_or last highest (x ∷ xs) (suc i) =
-    cond_both (next last highest x) (x ∷ climbing x highest xs) [] (λ ys. suc i < length ys → get_or ys (suc i) 0 ≡ get_or xs i 0)
-    (λ _ h. climbing_get_or x highest xs i (omega arith))
-    (λ _ h. absurd (omega arith))
+  pub passed_all : length xs ≤ i → xs ≡ climbing 0 highest xs
+  passed_all past =
+      sym (ap (λ ys. ys ++ climbing last highest (drop i xs)) (take_all i xs past)
+      ∙ ap (λ ys. xs ++ climbing last highest ys) (drop_all i xs past)
+      ∙ append-nil xs)
+      ∙ so_far
 
--- a list climbs where its front is all of it, and a front then ends with the list, whatever zeros follow
-and_assoc : (x y z : Bool) → (x && (y && z)) ≡ ((x && y) && z)
-and_assoc true y z = refl
-and_assoc false y z = refl
+  pub passed_on : i < length xs → last < get_or xs i 0 → get_or xs i 0 ≤ highest → Passed highest xs (get_or xs i 0) (i + 1)
+  passed_on here above below =
+      let on = at_drop_more (climbing last highest) xs i 0 here ∙ cond-true _ _ _ (next_yes last highest (get_or xs i 0) above below) in
+      ap (λ ys. ys ++ climbing (get_or xs i 0) highest (drop (i + 1) xs)) (take_more xs i 0 here)
+      ∙ append_assoc (take i xs) (get_or xs i 0 ∷ []) (climbing (get_or xs i 0) highest (drop (i + 1) xs))
+      ∙ ap (λ ys. take i xs ++ ys) (sym on)
+      ∙ so_far
 
-eqb_suc : (a b : ℕ) → eqb (suc a) (suc b) ≡ eqb a b
-eqb_suc a b = grind (arith, nat_tests)
-
+-- a list that climbs is its own front, whatever zeros follow
 climbs_next : (last highest x : ℕ) (xs : List ℕ) → climbs last highest (x ∷ xs) ≡ (next last highest x && climbs x highest xs)
-climbs_next last highest x xs = and_assoc (ltb last x) (leb x highest) (climbs x highest xs)
-
-pub climbs_whole : (last highest : ℕ) (xs : List ℕ) → eqb (length (climbing last highest xs)) (length xs) ≡ climbs last highest xs
-climbs_whole last highest [] = refl
-climbs_whole last highest (x ∷ xs) =
-    let P : List ℕ → Type 0 = λ ys. eqb (length ys) (suc (length xs)) ≡ climbs last highest (x ∷ xs) in
-    cond_both (next last highest x) (x ∷ climbing x highest xs) [] P
-    (λ e.
-    eqb_suc (length (climbing x highest xs)) (length xs)
-    ∙ climbs_whole x highest xs
-    ∙ sym (climbs_next last highest x xs ∙ ap (λ b. b && climbs x highest xs) e))
-    (λ e.
-    ne_eqb 0 (suc (length xs)) (λ z. omega arith)
-    ∙ sym (climbs_next last highest x xs ∙ ap (λ b. b && climbs x highest xs) e))
+climbs_next last highest x xs = sym (and_assoc (ltb last x) (leb x highest) (climbs x highest xs))
 
 climbing_zeros : (last highest n : ℕ) → climbing last highest (replicate n 0) ≡ []
 climbing_zeros last highest zero = refl
@@ -77,20 +60,15 @@ climbing_padded last highest (x ∷ xs) n h =
     cond-true _ _ _ p.0 ∙ ap (λ ys. x ∷ ys) (climbing_padded x highest xs n p.1)
 
 -- a list that may be fitted is short, and a row reads it back
-fitting_short : (l : ℕ) (xs : List ℕ) → fitting l xs ≡ true → length xs ≤ 8
+pub fitting_short : (l : ℕ) (xs : List ℕ) → fitting l xs ≡ true → length xs ≤ 8
 fitting_short l xs h = leb-true (length xs) 8 (and_parts (leb (length xs) 8) (climbs 0 l xs) h).0
-
-length_entries : (xs : List ℕ) → length xs ≤ 8 → length (entries_of xs) ≡ 8
-length_entries xs h = simp (length-append, length-replicate) (omega arith)
 
 pub list_in_all : (l : ℕ) (entries : List ℕ) → length entries ≡ 8 → list_in l entries ≡ climbing 0 l entries
 list_in_all l entries h = ap (climbing 0 l) (take_all places entries (omega arith))
 
-pub list_in_get_or : (l : ℕ) (entries : List ℕ) (i : ℕ) → length entries ≡ 8 → i < length (list_in l entries) → get_or (list_in l entries) i 0 ≡ get_or entries i 0
-list_in_get_or l entries i h here =
-    climbing_get_or 0 l (take places entries) i here ∙ ap (λ xs. get_or xs i 0) (take_all places entries (omega arith))
-
 pub list_in_entries : (l : ℕ) (xs : List ℕ) → fitting l xs ≡ true → list_in l (entries_of xs) ≡ xs
 list_in_entries l xs h =
-    list_in_all l (entries_of xs) (length_entries xs (fitting_short l xs h))
+    let short = fitting_short l xs h in
+    let size : length (entries_of xs) ≡ 8 = simp (length-append, length-replicate) (omega arith) in
+    list_in_all l (entries_of xs) size
     ∙ climbing_padded 0 l xs (places - length xs) (and_parts (leb (length xs) 8) (climbs 0 l xs) h).1

@@ -1,8 +1,6 @@
 pub mod Climbs
-pub mod Filled
 pub mod Places
 pub mod Seen
 pub mod Written
 pub mod Changes
-pub mod Whole
 pub mod Opened

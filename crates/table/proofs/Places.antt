@@ -1,24 +1,22 @@
 -- Numbers from 1 to a count, and the place of a number's row among so many rows.
-use Rattle.std.proofs.Common.{◌≡◌, ℕ, ◌-◌, ◌<◌, ◌≤◌, min, Bool, true, false, cond, Some, None, Option, refl, arith}
+use Rattle.std.proofs.Common.{◌≡◌, ℕ, ◌-◌, ◌<◌, ◌≤◌, min, true, false, cond, List, length, slice_get, slice_index, Some, None, Option, inl, inr, sym, ◌∙◌, arith}
+use Rattle.std.proofs.lemmas.Bool.{cases_lt, cond-true, cond-false}
 use Rattle.std.proofs.lemmas.Bool.Decides.{nat_tests}
+use Rattle.std.proofs.lemmas.Grind.{common_steps}
+use Rattle.std.proofs.lemmas.Option.{cond_some, slice_get-get_or, slice_get_past}
 use Rattle.book.specs.Declined.{inside}
+use Rattle.book.specs.Asked.{where_inside}
 
-pub inside_yes : (k count : ℕ) → 1 ≤ k → k ≤ count → inside k count ≡ true
-inside_yes k count low high = grind (arith, nat_tests)
-
-inside_bounds : (k count : ℕ) → inside k count ≡ true → (1 ≤ k) × (k ≤ count)
+pub inside_bounds : (k count : ℕ) → inside k count ≡ true → (1 ≤ k) × (k ≤ count)
 inside_bounds k count h = grind (arith, nat_tests)
 
--- what an answer tells that is given only where a test holds
-pub some_when : {X : Type 0} (b : Bool) (x y : X) → Some x ≡ cond b (Some y) None → (b ≡ true) × (x ≡ y)
-some_when true x y e = let is : x ≡ y = cc in (refl, is)
-some_when false x y e = let never : ◌≡◌ {A = ℕ} 0 1 = cc in absurd (omega arith)
+inside_yes : (k count : ℕ) → 1 ≤ k → k ≤ count → inside k count ≡ true
+inside_yes k count low high = grind (arith, nat_tests)
 
-pub none_when : {X : Type 0} (b : Bool) (y : X) → None ≡ cond b (Some y) None → b ≡ false
-none_when true y e = let never : ◌≡◌ {A = ℕ} 0 1 = cc in absurd (omega arith)
-none_when false y e = refl
+inside_no : (k count : ℕ) → count < k → inside k count ≡ false
+inside_no k count high = grind (arith, nat_tests)
 
--- where the row of number k is, of n rows, as `row_place` answers it
+-- where the row of number k is, of n rows
 abbrev pub place_of : ℕ → ℕ → Option ℕ
 place_of k n = cond (inside k (min 512 n)) (Some (k - 1)) None
 
@@ -31,6 +29,18 @@ pub record Placed (k n i : ℕ) : Type 0 where
 
 pub placed : (k n i : ℕ) → Some i ≡ place_of k n → Placed k n i
 placed k n i e =
-    let w = some_when (inside k (min 512 n)) i (k - 1) e in
+    let w = cond_some (inside k (min 512 n)) (k - 1) i (sym e) in
     let b = inside_bounds k (min 512 n) w.0 in
-    record { used = w.0; is = w.1; few = omega arith; here = omega arith }
+    let is : i ≡ k - 1 = sym w.1 in
+    record { used = w.0; is = is; few = omega arith; here = omega arith }
+
+-- an absent one
+pub not_placed : (k n : ℕ) → None ≡ place_of k n → inside k (min 512 n) ≡ false
+not_placed k n e = grind (arith, common_steps)
+
+-- the number at place p of a list, from 1
+pub numbered : (xs : List ℕ) (p i : ℕ) → 1 ≤ p → i ≡ p - 1 → slice_get xs i ≡ where_inside p (length xs) (slice_index xs (p - 1))
+numbered xs p i low is = rw is (elim (cases_lt (p - 1) (length xs)) [
+  | inl here ↦ slice_get-get_or xs (p - 1) 0 here ∙ sym (cond-true _ _ _ (inside_yes p (length xs) low (omega arith)))
+  | inr past ↦ slice_get_past xs (p - 1) past ∙ sym (cond-false _ _ _ (inside_no p (length xs) (omega arith)))
+])

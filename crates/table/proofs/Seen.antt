@@ -1,71 +1,74 @@
 -- What a book of rows tells of a number: what the number's row holds.
-use Rattle.std.proofs.Common.{◌≡◌, ℕ, ◌-◌, ◌<◌, min, true, false, cond, ◌⊎◌, List, map, length, get_or, take, Some, None, Option, sym, ap, ◌∙◌, ⊎_elim, arith, length-take}
+use Rattle.std.proofs.Common.{◌≡◌, ℕ, ◌-◌, ◌<◌, true, cond, List, [], map, length, get_or, take, Some, None, Option, sym, refl, ap, ◌∙◌, inl, inr, arith, length-take}
+use Rattle.std.specs.Option.{option_map, option_and_then}
 use Rattle.std.proofs.lemmas.List.{get_or-map, get_or-take}
-use Rattle.std.proofs.lemmas.Bool.{cond-true, cond-false}
-use Rattle.book.specs.Meaning.{Fitted, UnitState, free, standing, withheld, Meaning}
-use Rattle.book.specs.Declined.{inside}
-use Rattle.book.specs.Asked.{fitted_at, count_in, entry_in}
+use Rattle.std.proofs.lemmas.Option.{slice_get_cases}
+use Rattle.std.proofs.lemmas.Bool.{cond-true, cond-false, cases_Bool}
+use Rattle.book.specs.Meaning.{free, material_count}
+use Rattle.book.specs.Declined.{inside, is_standing}
+use Rattle.book.specs.Asked.{plain, wanted_at, bought_at, stands_at, told_of, fitted_at}
+use Rattle.book.specs.declared.books.State.TheVariants.{Free}
+use Rattle.table.specs.declared.TableBook.{TableBook}
 use Rattle.table.specs.declared.rows.UnitRow.{UnitRow}
-use Rattle.table.specs.declared.rows.RowState.{RowState}
-use Rattle.table.specs.declared.rows.RowState.TheVariants.{Free, Standing, Withheld}
-use Rattle.table.specs.Rows.{most_rows, fitted_in, in_state, state_in, row_in}
-use Rattle.table.specs.WellFormed.{count_read}
-use Rattle.table.proofs.Places.{place_of, placed, none_when}
+use Rattle.table.specs.Rows.{most_rows, used, found, material_in, state_in}
+use Rattle.table.specs.Tables.{table_meaning}
+use Rattle.table.specs.WellFormed.{count_read, count_materials}
+use Rattle.table.proofs.Places.{inside_bounds}
 
 -- the rows that are used, as `g` reads them
 abbrev pub read : {R X : Type 0} → (R → X) → List R → List X
 read g rows = map g (take most_rows rows)
+
+-- the row at a place that is in range
+abbrev pub row_in : List UnitRow → ℕ → UnitRow
+row_in rows i = get_or rows i (record { state = Free; inputs = []; outputs = [] })
 
 -- how a question about number k is answered from what is read
 abbrev pub asked : {X Y : Type 0} → List X → X → ℕ → (X → Option Y) → Option Y
 asked xs none k f = cond (inside k (length xs)) (f (get_or xs (k - 1) none)) None
 
 module _ {R X : Type 0} (g : R → X) (rows : List R) (k : ℕ) where
-  -- a number that has a row is inside, and what is read of it is in that row
-  pub row_inside : (i : ℕ) → Some i ≡ place_of k (length rows) → inside k (length (read g rows)) ≡ true
-  row_inside i h = ap (inside k) (count_read g rows) ∙ (placed k (length rows) i h).used
+  pub row_inside : inside k (length (read g rows)) ≡ inside k (used rows)
+  row_inside = ap (inside k) (count_read g rows)
 
-  pub row_read : (none : X) (i : ℕ) (e : R) → Some i ≡ place_of k (length rows) → get_or (read g rows) (k - 1) none ≡ g (get_or rows i e)
-  row_read none i e h =
-      let p = placed k (length rows) i h in
-      let short : i < length (take most_rows rows) = simp length-take (omega arith) in
-      ap (λ j. get_or (read g rows) j none) (sym p.is)
-      ∙ get_or-map g (take most_rows rows) i e none short
-      ∙ ap g (get_or-take most_rows rows i e p.few)
-
-  -- one that has none is outside
-  pub row_outside : None ≡ place_of k (length rows) → inside k (length (read g rows)) ≡ false
-  row_outside h = ap (inside k) (count_read g rows) ∙ none_when (inside k (min most_rows (length rows))) (k - 1) h
+  -- what is read of a number that has a row is in that row
+  pub row_read : (none : X) (e : R) → inside k (used rows) ≡ true → get_or (read g rows) (k - 1) none ≡ g (get_or rows (k - 1) e)
+  row_read none e within =
+      let b = inside_bounds k (used rows) within in
+      let short : k - 1 < length (take most_rows rows) = simp length-take (omega arith) in
+      get_or-map g (take most_rows rows) (k - 1) e none short
+      ∙ ap g (get_or-take most_rows rows (k - 1) e (omega arith))
 
   -- so a question is answered from the row, or by absence
-  pub from_row : {Y : Type 0} (none : X) (f : X → Option Y) (i : ℕ) (e : R) → Some i ≡ place_of k (length rows) → f (g (get_or rows i e)) ≡ asked (read g rows) none k f
-  from_row none f i e h = sym (cond-true _ _ _ (row_inside i h) ∙ ap f (row_read none i e h))
+  pub asked_row : {Y : Type 0} (none : X) (f : X → Option Y) → asked (read g rows) none k f ≡ option_and_then (λ r. f (g r)) (found k rows)
+  asked_row none f = elim (cases_Bool (inside k (used rows))) [
+    | inr out ↦
+        cond-false _ _ _ (row_inside ∙ out) ∙ ap (option_and_then (λ r. f (g r))) (sym (cond-false _ _ _ out))
+    | inl within ↦
+        let b = inside_bounds k (used rows) within in
+        elim ((slice_get_cases rows (k - 1)).1) [
+          | inr past ↦ absurd (omega (arith, past.0))
+          | inl here ↦
+              cond-true _ _ _ (row_inside ∙ within)
+              ∙ ap f (row_read none here.0 within ∙ ap g here.3)
+              ∙ ap (option_and_then (λ r. f (g r))) (sym (cond-true _ _ _ within ∙ here.2))
+        ]
+  ]
 
-  pub by_absence : {Y : Type 0} (none : X) (f : X → Option Y) → None ≡ place_of k (length rows) → None ≡ asked (read g rows) none k f
-  by_absence none f h = sym (cond-false _ _ _ (row_outside h))
+  pub value_of_row : {Y : Type 0} (none : X) (f : X → Y) → asked (read g rows) none k (λ x. Some (f x)) ≡ option_map (λ r. f (g r)) (found k rows)
+  value_of_row none f = asked_row none (λ x. Some (f x)) ∙ elim (found k rows) as (λ o. option_and_then (λ r. Some (f (g r))) o ≡ option_map (λ r. f (g r)) o) [ None ↦ refl | Some r ↦ refl ]
 
--- what a row means where its state is known
-pub state_by : (l : ℕ) (row : UnitRow) (s : RowState) → row.state ≡ s → state_in l row ≡ in_state s (fitted_in l row)
-state_by l row s h = ap (λ t. in_state t (fitted_in l row)) h
+-- what the table tells of number k, by the row that the number has
+module _ (t : TableBook) (k : ℕ) where
+  pub wanted_row : option_map (λ r. r.wanted) (found k t.materials.now) ≡ wanted_at k (table_meaning t)
+  wanted_row = sym (value_of_row material_in t.materials.now k plain (λ m. m.wanted))
 
-not_standing : (l : ℕ) (row : UnitRow) {Y : Type 0} (f : UnitState → Y) (y : Y) → f free ≡ y → ((x : Fitted) → f (withheld x) ≡ y) → (row.state ≡ Free) ⊎ (row.state ≡ Withheld) → f (state_in l row) ≡ y
-not_standing l row f y of-free of-withheld =
-    ⊎_elim (λ (h : row.state ≡ Free). ap f (state_by l row Free h) ∙ of-free)
-    (λ (h : row.state ≡ Withheld). ap f (state_by l row Withheld h) ∙ of-withheld (fitted_in l row))
+  pub bought_row : option_map (λ r. r.bought) (found k t.materials.now) ≡ bought_at k (table_meaning t)
+  bought_row = sym (value_of_row material_in t.materials.now k plain (λ m. m.bought))
 
--- a question about a unit number, answered where its row stands and where it does not
-module _ (l : ℕ) (rows : List UnitRow) (k i : ℕ) (h : Some i ≡ place_of k (length rows)) {Y : Type 0} (f : UnitState → Option Y) where
-  pub of_standing : (row_in rows i).state ≡ Standing → f (standing (fitted_in l (row_in rows i))) ≡ asked (read (state_in l) rows) free k f
-  of_standing is = sym (ap f (state_by l (row_in rows i) Standing is)) ∙ from_row (state_in l) rows k free f i _ h
+  pub stands_row : option_map (λ r. is_standing (state_in (used t.materials.now) r)) (found k t.units.now) ≡ stands_at k (table_meaning t)
+  stands_row = sym (value_of_row (state_in (used t.materials.now)) t.units.now k free is_standing)
 
-  pub of_other : (y : Option Y) → f free ≡ y → ((x : Fitted) → f (withheld x) ≡ y) → ((row_in rows i).state ≡ Free) ⊎ ((row_in rows i).state ≡ Withheld) → y ≡ asked (read (state_in l) rows) free k f
-  of_other y of-free of-withheld is =
-      sym (not_standing l (row_in rows i) f y of-free of-withheld is) ∙ from_row (state_in l) rows k free f i _ h
-
--- what is told of a unit's list, from what is told of the unit
-module _ (side : Fitted → List ℕ) (k : ℕ) (m : Meaning) (f : Option Fitted) (told : f ≡ fitted_at k m) where
-  pub count_told : (r : Option ℕ) → r ≡ count_in side f → r ≡ count_in side (fitted_at k m)
-  count_told r is = is ∙ ap (count_in side) told
-
-  pub entry_told : (place : ℕ) (r : Option ℕ) → r ≡ entry_in side place f → r ≡ entry_in side place (fitted_at k m)
-  entry_told place r is = is ∙ ap (entry_in side place) told
+  pub fitted_row_at : option_and_then (λ r. told_of (state_in (material_count (table_meaning t)) r)) (found k t.units.now) ≡ fitted_at k (table_meaning t)
+  fitted_row_at =
+      rw count_materials (sym (asked_row (state_in (used t.materials.now)) t.units.now k free told_of))

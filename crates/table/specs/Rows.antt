@@ -1,14 +1,13 @@
 -- What rows of a table mean, and the rows of a meaning.
-use Rattle.std.specs.Prelude.{◌≡◌, ℕ, ◌-◌, min, List, [], ◌++◌, map, length, take, drop, replicate, Some, None, Option, Result, slice_index_or}
-use Rattle.book.specs.declared.Refusal.{Refusal}
+use Rattle.std.specs.Prelude.{◌≡◌, ℕ, ◌-◌, min, cond, List, [], ◌++◌, map, length, take, drop, replicate, None, Option, slice_get}
 use Rattle.book.specs.Meaning.{Material, Fitted, UnitState, free, standing, withheld, Meaning}
 use Rattle.book.specs.Asked.{plain}
-use Rattle.book.specs.Edits.{Edit, Edited}
+use Rattle.book.specs.Declined.{inside}
 use Rattle.book.specs.Climbing.{climbing}
-use Rattle.table.specs.declared.rows.MaterialRow.{MaterialRow}
+use Rattle.book.specs.declared.books.Class.{Class}
+use Rattle.book.specs.declared.books.State.{State}
+use Rattle.book.specs.declared.books.State.TheVariants.{Free, Standing, Withheld}
 use Rattle.table.specs.declared.rows.UnitRow.{UnitRow}
-use Rattle.table.specs.declared.rows.RowState.{RowState}
-use Rattle.table.specs.declared.rows.RowState.TheVariants.{Free, Standing, Withheld}
 
 -- a table uses at most this many rows of each memory
 abbrev pub most_rows : ℕ
@@ -18,7 +17,7 @@ most_rows = 512
 abbrev pub places : ℕ
 places = 8
 
-abbrev pub material_in : MaterialRow → Material
+abbrev pub material_in : Class → Material
 material_in r = record { wanted = r.wanted; bought = r.bought }
 
 -- the list that a row's entries stand for, in a table of l materials: they ascend strictly, and 0 ends them.
@@ -26,7 +25,7 @@ material_in r = record { wanted = r.wanted; bought = r.bought }
 abbrev pub list_in : ℕ → List ℕ → List ℕ
 list_in l entries = climbing 0 l (take places entries)
 
-abbrev pub in_state : RowState → Fitted → UnitState
+abbrev pub in_state : State → Fitted → UnitState
 in_state Free f = free
 in_state Standing f = standing f
 in_state Withheld f = withheld f
@@ -37,45 +36,29 @@ fitted_in l r = record { inputs = list_in l r.inputs; outputs = list_in l r.outp
 abbrev pub state_in : ℕ → UnitRow → UnitState
 state_in l r = in_state r.state (fitted_in l r)
 
--- what the row tells that is read of a standing unit, where there is one
-abbrev pub read_in : ℕ → Option UnitRow → Option Fitted
-read_in l None = None
-read_in l (Some r) = Some (fitted_in l r)
-
--- the row at a place that is in range, and a row with another state and the same lists
-abbrev pub row_in : List UnitRow → ℕ → UnitRow
-row_in rows i = slice_index_or rows i (record { state = Free; inputs = []; outputs = [] })
-
-abbrev pub restated : UnitRow → RowState → UnitRow
-restated r s = record { state = s; inputs = r.inputs; outputs = r.outputs }
-
 -- how many rows of a memory are used
 abbrev pub used : {R : Type 0} → List R → ℕ
 used rows = min most_rows (length rows)
 
+-- the row with that number, from 1, where the table uses one
+abbrev pub found : {R : Type 0} → ℕ → List R → Option R
+found number rows = cond (inside number (used rows)) (slice_get rows (number - 1)) None
+
 -- what the rows mean
-abbrev pub materials_in : List MaterialRow → List Material
+abbrev pub materials_in : List Class → List Material
 materials_in rows = map material_in (take most_rows rows)
 
 abbrev pub units_in : ℕ → List UnitRow → List UnitState
 units_in l rows = map (state_in l) (take most_rows rows)
 
--- a book with these rows of materials, whatever its units are; and one with these rows of units in a table of l materials,
--- whatever the materials are
-abbrev pub materials_book : List UnitState → List MaterialRow → Meaning
-materials_book us rows = record { materials = materials_in rows; units = us }
-
-abbrev pub units_book : List Material → ℕ → List UnitRow → Meaning
-units_book ms l rows = record { materials = ms; units = units_in l rows }
-
-abbrev pub of_rows : List MaterialRow → List UnitRow → Meaning
+abbrev pub of_rows : List Class → List UnitRow → Meaning
 of_rows ms us = record { materials = materials_in ms; units = units_in (used ms) us }
 
 -- the entries of a list: its numbers, then zeros
 abbrev pub entries_of : List ℕ → List ℕ
 entries_of xs = xs ++ replicate (places - length xs) 0
 
-abbrev pub fitted_row : RowState → Fitted → UnitRow
+abbrev pub fitted_row : State → Fitted → UnitRow
 fitted_row s f = record { state = s; inputs = entries_of f.inputs; outputs = entries_of f.outputs }
 
 -- the row of a number: a free one's is empty
@@ -93,19 +76,8 @@ pub record RowsKept {R : Type 0} (before after : List R) : Type 0 where
   pub size : length after ≡ length before
   pub beyond : drop most_rows after ≡ drop most_rows before
 
--- what an edit says of rows of materials before and after, whatever the units of the book are
-pub record MaterialsEdited (edit : Meaning → Edit) (before after : List MaterialRow) (answer : Result (Unit {0}) Refusal) : Type 0 where
-  pub told : (us : List UnitState) → Edited (materials_book us) edit before after answer
-  pub held : RowsKept before after
-
--- what an edit says of rows of units before and after, in a table of l materials, whatever these are
-pub record UnitsEdited (l : ℕ) (edit : Meaning → Edit) (before after : List UnitRow) (answer : Result (Unit {0}) Refusal) : Type 0 where
-  pub told : (ms : List Material) → length ms ≡ l → Edited (units_book ms l) edit before after answer
-  pub held : RowsKept before after
-  pub exact : Exact l before → Exact l after
-
 -- rows of a table that is opened: every material plain, every number free; further rows as they were
-abbrev pub plain_row : MaterialRow
+abbrev pub plain_row : Class
 plain_row = record { wanted = plain.wanted; bought = plain.bought }
 
 abbrev pub fresh : {R : Type 0} → R → List R → List R

@@ -7,10 +7,10 @@ use Rattle.std.proofs.ByRecursion.{All-map}
 use Rattle.std.proofs.lemmas.Bool.{cond_both, and_parts, ltb-true, leb-true}
 use Rattle.book.specs.Meaning.{Fitted, StateWithin, Listed, FittedWithin, WellFormed}
 use Rattle.book.specs.Climbing.{climbing}
-use Rattle.table.specs.declared.rows.MaterialRow.{MaterialRow}
+use Rattle.book.specs.declared.books.Class.{Class}
+use Rattle.book.specs.declared.books.State.{State}
+use Rattle.book.specs.declared.books.State.TheVariants.{Free, Standing, Withheld}
 use Rattle.table.specs.declared.rows.UnitRow.{UnitRow}
-use Rattle.table.specs.declared.rows.RowState.{RowState}
-use Rattle.table.specs.declared.rows.RowState.TheVariants.{Free, Standing, Withheld}
 use Rattle.table.specs.Rows.{most_rows, places, material_in, list_in, in_state, state_in, used, materials_in, units_in, of_rows}
 
 -- a climbing front has no more numbers than the list that it is a front of
@@ -40,7 +40,7 @@ list_listed l entries = record {
 }
 
 -- the state of a row
-in_state_within : (l : ℕ) (s : RowState) (f : Fitted) → FittedWithin l f → StateWithin l (in_state s f)
+in_state_within : (l : ℕ) (s : State) (f : Fitted) → FittedWithin l f → StateWithin l (in_state s f)
 in_state_within l Free f h = tt
 in_state_within l Standing f h = h
 in_state_within l Withheld f h = h
@@ -57,13 +57,13 @@ all_within l (r ∷ rows) = (state_within l r, all_within l rows)
 pub count_read : {R X : Type 0} (g : R → X) (rows : List R) → length (map g (take most_rows rows)) ≡ used rows
 count_read g rows = simp (length-map, length-take)
 
-pub count_materials : (ms : List MaterialRow) → length (materials_in ms) ≡ used ms
+pub count_materials : (ms : List Class) → length (materials_in ms) ≡ used ms
 count_materials ms = count_read material_in ms
 
 pub count_units : (l : ℕ) (us : List UnitRow) → length (units_in l us) ≡ used us
 count_units l us = count_read (state_in l) us
 
-pub of_rows_well_formed : (ms : List MaterialRow) (us : List UnitRow) → WellFormed (of_rows ms us)
+pub of_rows_well_formed : (ms : List Class) (us : List UnitRow) → WellFormed (of_rows ms us)
 of_rows_well_formed ms us = record {
   few_materials = omega (arith, count_materials ms);
   few_units = omega (arith, count_units (used ms) us);

@@ -5,14 +5,10 @@ ghost use Rattle.std.specs.Prelude.{◌≡◌};
 ghost use Rattle.book.specs.Meaning.{free};
 ghost use Rattle.book.specs.Edits.{Edited, lists_given, fit_edit};
 ghost use Rattle.table.specs.Rows.{used, of_rows, Exact, RowsKept, plain_row, row_of, fresh, new_book};
-ghost use Rattle.table.specs.Tables.{table_meaning, TableKept, table_laws};
+ghost use Rattle.table.specs.Tables.{table_meaning};
 
-use book::{Book, EditableBook, Lists, Refusal};
-use edits::{row_class, row_clear, row_fit, row_hide, row_show};
-use questions::{
-    row_bought, row_input, row_input_count, row_output, row_output_count, row_stands, row_wanted,
-};
-use rows::{refresh, used};
+use book::{EditableBook, Lists, Refusal};
+use rows::used;
 
 mod edits;
 mod lists;
@@ -38,80 +34,11 @@ impl<'a> TableBook<'a> {
         ensures meaning { table_meaning result ≡ new_book (used materials.old) (used units.old) }
         ensures exact { Exact (used result.materials.now) result.units.now }
     {
-        refresh(materials, MaterialRow::PLAIN);
-        refresh(units, UnitRow::FREE);
+        let count = used(materials.len()) as usize;
+        materials[..count].fill(MaterialRow::PLAIN);
+        let count = used(units.len()) as usize;
+        units[..count].fill(UnitRow::FREE);
         TableBook { materials, units }
-    }
-}
-
-impl<'a> Book for TableBook<'a> {
-    ghost meaning = { table_meaning };
-
-    ghost kept = { TableKept };
-
-    ghost laws = { table_laws };
-
-    fn materials(&mut self) -> u16 {
-        used(self.materials.len())
-    }
-
-    fn units(&mut self) -> u16 {
-        used(self.units.len())
-    }
-
-    fn wanted(&mut self, material: u16) -> Option<bool> {
-        row_wanted(self.materials, material)
-    }
-
-    fn bought(&mut self, material: u16) -> Option<bool> {
-        row_bought(self.materials, material)
-    }
-
-    fn stands(&mut self, unit: u16) -> Option<bool> {
-        row_stands(self.units, unit)
-    }
-
-    fn input_count(&mut self, unit: u16) -> Option<u16> {
-        let materials = used(self.materials.len());
-        row_input_count(self.units, materials, unit)
-    }
-
-    fn output_count(&mut self, unit: u16) -> Option<u16> {
-        let materials = used(self.materials.len());
-        row_output_count(self.units, materials, unit)
-    }
-
-    fn input(&mut self, unit: u16, place: u16) -> Option<u16> {
-        let materials = used(self.materials.len());
-        row_input(self.units, materials, unit, place)
-    }
-
-    fn output(&mut self, unit: u16, place: u16) -> Option<u16> {
-        let materials = used(self.materials.len());
-        row_output(self.units, materials, unit, place)
-    }
-}
-
-impl<'a> EditableBook for TableBook<'a> {
-    fn fit(&mut self, unit: u16, lists: Lists<'_>) -> Result<(), Refusal> {
-        let materials = used(self.materials.len());
-        row_fit(self.units, materials, unit, lists)
-    }
-
-    fn class(&mut self, material: u16, wanted: bool, bought: bool) -> Result<(), Refusal> {
-        row_class(self.materials, material, wanted, bought)
-    }
-
-    fn hide(&mut self, unit: u16) -> Result<(), Refusal> {
-        row_hide(self.units, unit)
-    }
-
-    fn show(&mut self, unit: u16) -> Result<(), Refusal> {
-        row_show(self.units, unit)
-    }
-
-    fn clear(&mut self, unit: u16) -> Result<(), Refusal> {
-        row_clear(self.units, unit)
     }
 }
 

@@ -1,7 +1,14 @@
 // Rows of a table: what they hold, how many of them a table uses, and where a number's row is.
-ghost use Rattle.std.specs.Prelude.{◌≡◌, ◌-◌, min, if◌then◌else◌, Some, None};
+ghost use Rattle.std.specs.Prelude.{◌≡◌, ◌-◌, ◌≤◌, min, length, if◌then◌else◌, Some, None};
 ghost use Rattle.book.specs.Declined.{inside};
-ghost use Rattle.table.specs.Rows.{fresh};
+ghost use Rattle.book.specs.Asked.{list_on};
+ghost use Rattle.table.specs.Rows.{fitted_in, found};
+
+use crate::lists::front;
+use book::Side;
+
+// The row of a material, and what a unit's row says of its number.
+pub use book::{Class as MaterialRow, State as RowState};
 
 // A table uses at most this many rows of a memory.
 const MOST: usize = 512;
@@ -9,31 +16,8 @@ const MOST: usize = 512;
 // A row has this many places for each list of its unit.
 pub const PLACES: usize = 8;
 
-// The row of a material.
-#[derive(Clone, Copy)]
-pub struct MaterialRow {
-    pub wanted: bool,
-    pub bought: bool,
-}
-
-impl MaterialRow {
-    // The row of a plain material.
-    pub const PLAIN: MaterialRow = MaterialRow {
-        wanted: false,
-        bought: false,
-    };
-}
-
-// What is known of a unit number.
-#[derive(Clone, Copy)]
-pub enum RowState {
-    Free,
-    Standing,
-    Withheld,
-}
-
 // The row of a unit number: its state, and its lists in ascending order, with 0 in each place that is not used.
-#[derive(Clone, Copy)]
+#[derive(Clone, Copy, PartialEq, Eq, Debug)]
 pub struct UnitRow {
     pub state: RowState,
     pub inputs: [u16; PLACES],
@@ -47,6 +31,18 @@ impl UnitRow {
         inputs: [0; PLACES],
         outputs: [0; PLACES],
     };
+
+    // The list on a side, in a table of so many materials.
+    #[tactic(auto, using(crate::specs::WellFormed::climbing_short, crate::proofs::Climbs::list_in_all))]
+    pub(crate) fn list(&self, side: Side, materials: u16) -> &[u16]
+        ensures list { result.now ≡ list_on side (fitted_in materials self.now) }
+        ensures short { length result.now ≤ 8 }
+    {
+        match side {
+            Side::Inputs => front(&self.inputs, materials),
+            Side::Outputs => front(&self.outputs, materials),
+        }
+    }
 }
 
 // How many rows are used, of so many.
@@ -67,11 +63,10 @@ pub(crate) fn row_place(number: u16, rows: usize) -> Option<usize>
     }
 }
 
-// Writes the row over each row that is used; further rows stay.
-pub(crate) fn refresh<R: Copy>(rows: &mut [R], row: R)
-    ensures { rows.new ≡ fresh row rows.old }
+// The row with that number, where the table uses one.
+pub(crate) fn row_at<R: Copy>(rows: &[R], number: u16) -> Option<R>
+    ensures { result ≡ found number rows.now }
 {
-    for i in 0..used(rows.len()) as usize {
-        rows[i] = row;
-    }
+    let place = row_place(number, rows.len())?;
+    rows.get(place).copied()
 }

@@ -1,21 +1,21 @@
 -- Both memories are made anew, and fresh rows mean a new book and hold exactly its rows.
-use Rattle.std.proofs.Common.{◌≡◌, sym, refl, ap, ◌∙◌, subst}
+use Rattle.std.proofs.Common.{refl}
 use Rattle.book.specs.Meaning.{free}
-use Rattle.table.specs.Rows.{used, of_rows, fresh, plain_row, row_of, Exact}
-use Rattle.table.proofs.Opened.{of_rows_fresh, exact_fresh}
+use Rattle.table.specs.Rows.{used, fresh, plain_row, row_of}
+use Rattle.table.proofs.Opened.{fresh_made, of_rows_fresh, exact_fresh}
 use Rattle.table.proofs.TableBook.open.Goals as goal
 
 pub returns : goal.returns
 returns c =
     let ms = c.args.materials.now in
     let us = c.args.units.now in
-    let em : c.refresh.new.rows ≡ fresh plain_row ms = c.refresh.ensures in
-    let eu : c.refresh-2.new.rows ≡ fresh (row_of free) us = c.refresh-2.ensures in
-    record {
+    let made_ms = fresh_made plain_row ms c.used-count.result c.fill.new.self c.used-count.ensures (c.fill.ensures.after (λ _ is. is)) in
+    let made_us = fresh_made (row_of free) us c.used-count-2.result c.fill-2.new.self c.used-count-2.ensures (c.fill-2.ensures.after (λ _ is. is)) in
+    rw (made_ms, made_us) (record {
       materials_there = refl;
       units_there = refl;
-      materials_fresh = em;
-      units_fresh = eu;
-      meaning = ap (λ rows. of_rows rows c.refresh-2.new.rows) em ∙ ap (of_rows (fresh plain_row ms)) eu ∙ of_rows_fresh ms us;
-      exact = subst (Exact (used c.refresh.new.rows)) (sym eu) (exact_fresh (used c.refresh.new.rows) us);
-    }
+      materials_fresh = refl;
+      units_fresh = refl;
+      meaning = of_rows_fresh ms us;
+      exact = exact_fresh (used (fresh plain_row ms)) us;
+    })
