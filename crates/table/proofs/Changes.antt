@@ -28,6 +28,10 @@ declined test e rest h = cond-true _ _ _ (not_from_false test h)
 passed : (test : Bool) (e : Refusal) (rest : Option Refusal) → test ≡ true → cond (not test) (Some e) rest ≡ rest
 passed test e rest h = cond-false _ _ _ (not_from_true test h)
 
+-- a unit may be fitted with the lists
+abbrev pub lists_fit : TableBook → Fitted → Bool
+lists_fit t f = fitting (material_count (table_meaning t)) f.inputs && fitting (material_count (table_meaning t)) f.outputs
+
 -- an edit that is refused leaves the table as it is
 pub refused : (t : TableBook) (edit : Meaning → Edit) (e : Refusal) (answer : Result (Unit {0}) Refusal) → answer ≡ Err e → first_refusal (edit (table_meaning t)).reasons ≡ Some e → Edited table_meaning edit t t answer
 refused t edit e answer is first = subst (Edited table_meaning edit t t) (sym is) (first, refl)
@@ -154,10 +158,10 @@ module _ (t : TableBook) (k i : ℕ) (h : Some i ≡ place_of k (length t.units.
 
   -- fit
   module _ (f : Fitted) where
-    pub fit_bad_list : (fitting (material_count (table_meaning t)) f.inputs && fitting (material_count (table_meaning t)) f.outputs) ≡ false → first_refusal (fit_edit k f (table_meaning t)).reasons ≡ Some BadList
+    pub fit_bad_list : lists_fit t f ≡ false → first_refusal (fit_edit k f (table_meaning t)).reasons ≡ Some BadList
     fit_bad_list bad = passed _ OutOfRange _ within ∙ declined _ BadList _ bad
 
-    module _ (good : (fitting (material_count (table_meaning t)) f.inputs && fitting (material_count (table_meaning t)) f.outputs) ≡ true) where
+    module _ (good : lists_fit t f ≡ true) where
       pub fit_not_free : is_free (state_in (used t.materials.now) (row_in t.units.now i)) ≡ false → first_refusal (fit_edit k f (table_meaning t)).reasons ≡ Some NotFree
       fit_not_free other =
           passed _ OutOfRange _ within ∙ passed _ BadList _ good ∙ declined _ NotFree None (ap is_free state_read ∙ other)
@@ -170,12 +174,15 @@ module _ (t : TableBook) (k i : ℕ) (h : Some i ≡ place_of k (length t.units.
           ap (λ xs. standing (record { inputs = xs; outputs = list_in l (entries_of f.outputs) })) (list_in_entries l f.inputs (sym (ap (λ m. fitting m f.inputs) n) ∙ p.0))
           ∙ ap (λ ys. standing (record { inputs = f.inputs; outputs = ys })) (list_in_entries l f.outputs (sym (ap (λ m. fitting m f.outputs) n) ∙ p.1))
 
-      pub fit_accepted : (row_in t.units.now i).state ≡ Free → Accepted (fit_edit k f) t (with_units t (set t.units.now i (fitted_row Standing f)))
-      fit_accepted is =
+      fit_row : (row_in t.units.now i).state ≡ Free → Accepted (fit_edit k f) t (with_units t (set t.units.now i (fitted_row Standing f)))
+      fit_row is =
           accepted (fit_edit k f) (fitted_row Standing f)
           (passed _ OutOfRange _ within ∙ passed _ BadList _ good ∙ passed _ NotFree None (ap is_free (state_is Free is)))
           (ap (λ s. with_unit (table_meaning t) k s) (sym reads_back))
           (λ e. sym (ap row_of reads_back))
+
+      pub fit_accepted : (xs ys : List ℕ) → xs ≡ entries_of f.inputs → ys ≡ entries_of f.outputs → (row_in t.units.now i).state ≡ Free → Accepted (fit_edit k f) t (with_units t (set t.units.now i (record { state = Standing; inputs = xs; outputs = ys })))
+      fit_accepted xs ys are-inputs are-outputs is = rw (are-inputs, are-outputs) (fit_row is)
 
 -- the place of a withheld unit's row
 withheld_state : (s : State) (f : Fitted) → is_withheld (in_state s f) ≡ true → s ≡ Withheld

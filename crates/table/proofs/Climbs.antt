@@ -11,9 +11,6 @@ use Rattle.table.specs.Rows.{places, list_in, entries_of}
 abbrev next : (last highest x : ℕ) → Bool
 next last highest x = ltb last x && leb x highest
 
-next_yes : (last highest x : ℕ) → last < x → x ≤ highest → next last highest x ≡ true
-next_yes last highest x above below = and_from (ltb last x) (leb x highest) (lt-ltb last x above) (le-leb x highest below)
-
 next_no : (last highest x : ℕ) → (x ≤ last) ⊎ (highest < x) → next last highest x ≡ false
 next_no last highest x =
     ⊎_elim (λ (h : x ≤ last). and_left (ltb last x) (leb x highest) (le-ltb last x h))
@@ -23,27 +20,11 @@ next_no last highest x =
 abbrev pub Passed : (highest : ℕ) (xs : List ℕ) (last i : ℕ) → Type 0
 Passed highest xs last i = take i xs ++ climbing last highest (drop i xs) ≡ climbing 0 highest xs
 
-module _ (highest : ℕ) (xs : List ℕ) (last i : ℕ) (so_far : Passed highest xs last i) where
-  -- it stops at a number that may not come next, or at the end, and goes on over one that may
-  pub passed_stops : i < length xs → (get_or xs i 0 ≤ last) ⊎ (highest < get_or xs i 0) → take i xs ≡ climbing 0 highest xs
-  passed_stops here out =
-      let stop = at_drop_more (climbing last highest) xs i 0 here ∙ cond-false _ _ _ (next_no last highest (get_or xs i 0) out) in
-      sym (append-nil (take i xs)) ∙ ap (λ ys. take i xs ++ ys) (sym stop) ∙ so_far
-
-  pub passed_all : length xs ≤ i → xs ≡ climbing 0 highest xs
-  passed_all past =
-      sym (ap (λ ys. ys ++ climbing last highest (drop i xs)) (take_all i xs past)
-      ∙ ap (λ ys. xs ++ climbing last highest ys) (drop_all i xs past)
-      ∙ append-nil xs)
-      ∙ so_far
-
-  pub passed_on : i < length xs → last < get_or xs i 0 → get_or xs i 0 ≤ highest → Passed highest xs (get_or xs i 0) (i + 1)
-  passed_on here above below =
-      let on = at_drop_more (climbing last highest) xs i 0 here ∙ cond-true _ _ _ (next_yes last highest (get_or xs i 0) above below) in
-      ap (λ ys. ys ++ climbing (get_or xs i 0) highest (drop (i + 1) xs)) (take_more xs i 0 here)
-      ∙ append_assoc (take i xs) (get_or xs i 0 ∷ []) (climbing (get_or xs i 0) highest (drop (i + 1) xs))
-      ∙ ap (λ ys. take i xs ++ ys) (sym on)
-      ∙ so_far
+-- it stops at a number that may not come next
+pub passed_stops : (highest : ℕ) (xs : List ℕ) (last i : ℕ) → Passed highest xs last i → i < length xs → (get_or xs i 0 ≤ last) ⊎ (highest < get_or xs i 0) → take i xs ≡ climbing 0 highest xs
+passed_stops highest xs last i so_far here out =
+    let stop = at_drop_more (climbing last highest) xs i 0 here ∙ cond-false _ _ _ (next_no last highest (get_or xs i 0) out) in
+    sym (append-nil (take i xs)) ∙ ap (λ ys. take i xs ++ ys) (sym stop) ∙ so_far
 
 -- a list that climbs is its own front, whatever zeros follow
 climbs_next : (last highest x : ℕ) (xs : List ℕ) → climbs last highest (x ∷ xs) ≡ (next last highest x && climbs x highest xs)

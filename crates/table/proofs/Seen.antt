@@ -1,16 +1,17 @@
 -- What a book of rows tells of a number: what the number's row holds.
-use Rattle.std.proofs.Common.{◌≡◌, ℕ, ◌-◌, ◌<◌, true, cond, List, [], map, length, get_or, take, Some, None, Option, sym, refl, ap, ◌∙◌, inl, inr, arith, length-take}
+use Rattle.std.proofs.Common.{◌≡◌, ℕ, ◌-◌, ◌<◌, true, cond, List, [], map, length, get_or, take, Some, None, Option, sym, refl, ap, ◌∙◌, inl, inr, arith, length-take, slice_index}
 use Rattle.std.specs.Option.{option_map, option_and_then}
 use Rattle.std.proofs.lemmas.List.{get_or-map, get_or-take}
 use Rattle.std.proofs.lemmas.Option.{slice_get_cases}
 use Rattle.std.proofs.lemmas.Bool.{cond-true, cond-false, cases_Bool}
 use Rattle.book.specs.Meaning.{free, material_count}
+use Rattle.book.specs.declared.books.Side.{Side}
 use Rattle.book.specs.Declined.{inside, is_standing}
-use Rattle.book.specs.Asked.{plain, wanted_at, bought_at, stands_at, told_of, fitted_at}
+use Rattle.book.specs.Asked.{where_inside, plain, wanted_at, bought_at, stands_at, told_of, fitted_at, count_in, entry_in, list_on, entry_count_at, entry_at}
 use Rattle.book.specs.declared.books.State.TheVariants.{Free}
 use Rattle.table.specs.declared.TableBook.{TableBook}
 use Rattle.table.specs.declared.rows.UnitRow.{UnitRow}
-use Rattle.table.specs.Rows.{most_rows, used, found, material_in, state_in}
+use Rattle.table.specs.Rows.{most_rows, used, found, material_in, fitted_in, state_in}
 use Rattle.table.specs.Tables.{table_meaning}
 use Rattle.table.specs.WellFormed.{count_read, count_materials}
 use Rattle.table.proofs.Places.{inside_bounds}
@@ -72,3 +73,16 @@ module _ (t : TableBook) (k : ℕ) where
   pub fitted_row_at : option_and_then (λ r. told_of (state_in (material_count (table_meaning t)) r)) (found k t.units.now) ≡ fitted_at k (table_meaning t)
   fitted_row_at =
       rw count_materials (sym (asked_row (state_in (used t.materials.now)) t.units.now k free told_of))
+
+  -- what is told of a standing unit's list, by the list that its row holds
+  module _ (side : Side) (l : ℕ) (row : UnitRow) (list : List ℕ) (known : l ≡ material_count (table_meaning t)) (held : list ≡ list_on side (fitted_in l row)) (told : option_map (fitted_in (material_count (table_meaning t))) (Some row) ≡ fitted_at k (table_meaning t)) where
+    list_told : list ≡ list_on side (fitted_in (material_count (table_meaning t)) row)
+    list_told = held ∙ ap (λ n. list_on side (fitted_in n row)) known
+
+    pub count_told : Some (length list) ≡ entry_count_at k side (table_meaning t)
+    count_told = ap (λ xs. Some (length xs)) list_told ∙ ap (count_in (list_on side)) told
+
+    pub entry_told : (place : ℕ) → where_inside place (length list) (slice_index list (place - 1)) ≡ entry_at k side place (table_meaning t)
+    entry_told place =
+        ap (λ xs. where_inside place (length xs) (slice_index xs (place - 1))) list_told
+        ∙ ap (entry_in (list_on side) place) told

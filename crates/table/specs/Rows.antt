@@ -1,12 +1,12 @@
 -- What rows of a table mean, and the rows of a meaning.
 use Rattle.std.specs.Prelude.{◌≡◌, ℕ, ◌-◌, min, cond, List, [], ◌++◌, map, length, take, drop, replicate, None, Option, slice_get}
+use Rattle.book.specs.declared.books.Class.{Class}
+use Rattle.book.specs.declared.books.State.{State}
+use Rattle.book.specs.declared.books.State.TheVariants.{Free, Standing, Withheld}
 use Rattle.book.specs.Meaning.{Material, Fitted, UnitState, free, standing, withheld, Meaning}
 use Rattle.book.specs.Asked.{plain}
 use Rattle.book.specs.Declined.{inside}
 use Rattle.book.specs.Climbing.{climbing}
-use Rattle.book.specs.declared.books.Class.{Class}
-use Rattle.book.specs.declared.books.State.{State}
-use Rattle.book.specs.declared.books.State.TheVariants.{Free, Standing, Withheld}
 use Rattle.table.specs.declared.rows.UnitRow.{UnitRow}
 
 -- a table uses at most this many rows of each memory

@@ -5,11 +5,11 @@ use Rattle.std.proofs.lemmas.List.{length-map}
 use Rattle.std.specs.List.{AllByRecursion}
 use Rattle.std.proofs.ByRecursion.{All-map}
 use Rattle.std.proofs.lemmas.Bool.{cond_both, and_parts, ltb-true, leb-true}
-use Rattle.book.specs.Meaning.{Fitted, StateWithin, Listed, FittedWithin, WellFormed}
-use Rattle.book.specs.Climbing.{climbing}
 use Rattle.book.specs.declared.books.Class.{Class}
 use Rattle.book.specs.declared.books.State.{State}
 use Rattle.book.specs.declared.books.State.TheVariants.{Free, Standing, Withheld}
+use Rattle.book.specs.Meaning.{Fitted, StateWithin, Listed, FittedWithin, WellFormed}
+use Rattle.book.specs.Climbing.{climbing}
 use Rattle.table.specs.declared.rows.UnitRow.{UnitRow}
 use Rattle.table.specs.Rows.{most_rows, places, material_in, list_in, in_state, state_in, used, materials_in, units_in, of_rows}
 

@@ -9,6 +9,7 @@ use crate::rows::PLACES;
 pub(crate) fn front(numbers: &[u16], materials: u16) -> &[u16]
     ensures { result.now ≡ climbing 0 materials numbers.now }
 {
+    // The number before is carried along: the first that may not come after it ends the front.
     let mut last = 0;
     for (i, number) in numbers.iter().enumerate() {
         if *number <= last || *number > materials {

@@ -8,7 +8,7 @@ use Rattle.book.specs.Edits.{lists_given, fit_edit}
 use Rattle.table.specs.Rows.{used, state_in}
 use Rattle.table.specs.Tables.{table_meaning}
 use Rattle.table.proofs.Seen.{row_in}
-use Rattle.table.proofs.Changes.{refused, fit_outside, fit_bad_list, fit_not_free, fit_accepted}
+use Rattle.table.proofs.Changes.{lists_fit, refused, fit_outside, fit_bad_list, fit_not_free, fit_accepted}
 use Rattle.table.proofs.edits.TableBookEditableBook.fit.Goals as goal
 
 pub returns-in_err-place-clause-told : goal.returns-in_err-place-clause-told
@@ -21,7 +21,7 @@ pub returns-then-not-fit-clause-told : goal.returns-then-not-fit-clause-told
 returns-then-not-fit-clause-told c =
     let t = c.args.self.now in
     let f = lists_given c.args.lists in
-    let bad : (fitting (material_count (table_meaning t)) f.inputs && fitting (material_count (table_meaning t)) f.outputs) ≡ false = search rules in
+    let bad : lists_fit t f ≡ false = search rules in
     (fit_bad_list t c.args.unit c.in_ok-place.place (sym c.in_ok-place.ensures.ok_part ∙ c.row_place.ensures) f bad, c.materials.ensures.same)
 
 pub returns-then-ne-clause-told : goal.returns-then-ne-clause-told
@@ -29,7 +29,7 @@ returns-then-ne-clause-told c =
     let t = c.args.self.now in
     let f = lists_given c.args.lists in
     let i = c.in_ok-place.place in
-    let good : (fitting (material_count (table_meaning t)) f.inputs && fitting (material_count (table_meaning t)) f.outputs) ≡ true = search rules in
+    let good : lists_fit t f ≡ true = search rules in
     let other : is_free (state_in (used t.materials.now) (row_in t.units.now i)) ≡ false = search rules in
     (fit_not_free t c.args.unit i (sym c.in_ok-place.ensures.ok_part ∙ c.row_place.ensures) f good other, c.materials.ensures.same)
 
@@ -38,7 +38,10 @@ returns c =
     let t = c.args.self.now in
     let f = lists_given c.args.lists in
     let i = c.in_ok-place.place in
-    let good : (fitting (material_count (table_meaning t)) f.inputs && fitting (material_count (table_meaning t)) f.outputs) ≡ true = search rules in
+    let good : lists_fit t f ≡ true = search rules in
     let is : (row_in t.units.now i).state ≡ Free = search rules in
-    let e = fit_accepted t c.args.unit i (sym c.in_ok-place.ensures.ok_part ∙ c.row_place.ensures) f good is in
-    rw (c.materials.ensures.same, c.entries_for.ensures, c.entries_for-2.ensures) (record { told = e.told; held = e.held })
+    let e =
+    fit_accepted t c.args.unit i (sym c.in_ok-place.ensures.ok_part ∙ c.row_place.ensures) f good
+    c.entries_for.result c.entries_for-2.result c.entries_for.ensures c.entries_for-2.ensures is
+    in
+    rw c.materials.ensures.same (record { told = e.told; held = e.held })

@@ -1,15 +1,18 @@
 -- The row of a standing unit is all that is told of it.
-use Rattle.std.proofs.Common.{◌≡◌, ◌∙◌, ap, arith, slice_get}
+use Rattle.std.proofs.Common.{◌≡◌, ◌∙◌, arith, slice_get}
 use Rattle.std.proofs.lemmas.Grind.{common_steps}
 use Rattle.std.proofs.lemmas.Option.{gets}
-use Rattle.book.specs.Asked.{list_on, entry_in}
 use Rattle.table.proofs.Places.{numbered}
+use Rattle.table.proofs.Seen.{entry_told}
 use Rattle.table.proofs.questions.TableBookBook.entry.Goals as goal
 
 pub returns-clause-answer : goal.returns-clause-answer
 returns-clause-answer c =
+    let list = c.list-list.result.now in
     let index = c.in_ok-index.ensures in
-    let read : c.copied.result ≡ slice_get c.list-list.result.now c.in_ok-index.index = let got = c.get.ensures.lookup in grind (arith, common_steps, gets) in
+    let got = c.get.ensures.lookup in
+    let read : c.copied.result ≡ slice_get list c.in_ok-index.index = grind (arith, common_steps, gets) in
     read
-    ∙ numbered c.list-list.result.now c.args.place c.in_ok-index.index index.0 index.1
-    ∙ rw (c.list-list.ensures.list, c.materials.ensures.answer) (ap (entry_in (list_on c.args.side) c.args.place) c.in_ok-row.ensures)
+    ∙ numbered list c.args.place c.in_ok-index.index index.0 index.1
+    ∙ entry_told c.args.self.now c.args.unit c.args.side c.materials.result c.in_ok-row.row list
+    c.materials.ensures.answer c.list-list.ensures.list c.in_ok-row.ensures c.args.place
