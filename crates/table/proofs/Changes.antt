@@ -36,10 +36,11 @@ lists_fit t f = fitting (material_count (table_meaning t)) f.inputs && fitting (
 pub refused : (t : TableBook) (edit : Meaning → Edit) (e : Refusal) (answer : Result (Unit {0}) Refusal) → answer ≡ Err e → first_refusal (edit (table_meaning t)).reasons ≡ Some e → Edited table_meaning edit t t answer
 refused t edit e answer is first = subst (Edited table_meaning edit t t) (sym is) (first, refl)
 
--- a number with no row is out of range
+-- a material with no row is out of range
 pub class_outside : (t : TableBook) (k : ℕ) (w b : Bool) → None ≡ place_of k (length t.materials.now) → first_refusal (class_edit k w b (table_meaning t)).reasons ≡ Some OutOfRange
 class_outside t k w b h = declined _ OutOfRange None (ap (inside k) (count_materials t.materials.now) ∙ not_placed k (length t.materials.now) h)
 
+-- a unit number with no row
 module _ (t : TableBook) (k : ℕ) (h : None ≡ place_of k (length t.units.now)) where
   pub unit_outside : inside k (unit_count (table_meaning t)) ≡ false
   unit_outside = ap (inside k) (count_units (used t.materials.now) t.units.now) ∙ not_placed k (length t.units.now) h
@@ -71,8 +72,8 @@ pub record Accepted (edit : Meaning → Edit) (before after : TableBook) : Type 
   pub told : Edited table_meaning edit before after (Ok tt)
   pub held : TableKept before after
 
+-- the row of a material is written
 module _ (t : TableBook) (k i : ℕ) (h : Some i ≡ place_of k (length t.materials.now)) where
-  -- the row of a material is written
   pub class_accepted : (class : Class) → Accepted (class_edit k class.wanted class.bought) t (with_materials t (set t.materials.now i class))
   class_accepted class =
       let p = placed k (length t.materials.now) i h in
@@ -95,11 +96,12 @@ module _ (t : TableBook) (k i : ℕ) (h : Some i ≡ place_of k (length t.materi
         };
       }
 
+-- a unit number with a row
 module _ (t : TableBook) (k i : ℕ) (h : Some i ≡ place_of k (length t.units.now)) where
   within : inside k (unit_count (table_meaning t)) ≡ true
   within = ap (inside k) (count_units (used t.materials.now) t.units.now) ∙ (placed k (length t.units.now) i h).used
 
-  -- what is known of a number is in its row
+  -- what is known of it is in its row
   pub state_read : state_at (table_meaning t) k ≡ state_in (used t.materials.now) (row_in t.units.now i)
   state_read =
       let p = placed k (length t.units.now) i h in
@@ -108,12 +110,13 @@ module _ (t : TableBook) (k i : ℕ) (h : Some i ≡ place_of k (length t.units.
   state_is : (s : State) → (row_in t.units.now i).state ≡ s → state_at (table_meaning t) k ≡ in_state s (fitted_in (used t.materials.now) (row_in t.units.now i))
   state_is s is = state_read ∙ ap (λ u. in_state u (fitted_in (used t.materials.now) (row_in t.units.now i))) is
 
+  -- where the rows hold exactly what they mean, so does this one
   row_exact : Exact (used t.materials.now) t.units.now → ExactRow (used t.materials.now) (row_in t.units.now i)
   row_exact e =
       let p = placed k (length t.units.now) i h in
       exact_at (used t.materials.now) t.units.now i p.few e p.here
 
-  -- an edit that writes the number's row
+  -- an edit that writes the row
   accepted : (edit : Meaning → Edit) (row : UnitRow)
       → first_refusal (edit (table_meaning t)).reasons ≡ None
       → (edit (table_meaning t)).made ≡ with_unit (table_meaning t) k (state_in (used t.materials.now) row)
@@ -138,6 +141,7 @@ module _ (t : TableBook) (k i : ℕ) (h : Some i ≡ place_of k (length t.units.
         };
       }
 
+  -- hide
   pub hide_refused : is_standing (state_in (used t.materials.now) (row_in t.units.now i)) ≡ false → first_refusal (hide_edit k (table_meaning t)).reasons ≡ Some NotStanding
   hide_refused other = passed _ OutOfRange _ within ∙ declined _ NotStanding None (ap is_standing state_read ∙ other)
 
@@ -148,7 +152,7 @@ module _ (t : TableBook) (k i : ℕ) (h : Some i ≡ place_of k (length t.units.
       (ap (λ s. with_unit (table_meaning t) k (hidden_state s)) (state_is Standing is))
       (λ e. restated_exact (used t.materials.now) (row_in t.units.now i) Standing Withheld standing_holds withheld_holds is (row_exact e))
 
-  -- its place is told where the row says that the unit is withheld
+  -- the place of a withheld unit's row is told where the row says that the unit is withheld
   pub withheld_told : cond (is_withheld (state_in (used t.materials.now) (row_in t.units.now i))) (Some i) None ≡ cond (withheld_at (table_meaning t) k) (Some (k - 1)) None
   withheld_told =
       let here : withheld_at (table_meaning t) k ≡ is_withheld (state_in (used t.materials.now) (row_in t.units.now i)) =
@@ -166,6 +170,7 @@ module _ (t : TableBook) (k i : ℕ) (h : Some i ≡ place_of k (length t.units.
       fit_not_free other =
           passed _ OutOfRange _ within ∙ passed _ BadList _ good ∙ declined _ NotFree None (ap is_free state_read ∙ other)
 
+      -- the row reads the lists back
       reads_back : state_in (used t.materials.now) (fitted_row Standing f) ≡ standing f
       reads_back =
           let l = used t.materials.now in
@@ -182,14 +187,15 @@ module _ (t : TableBook) (k i : ℕ) (h : Some i ≡ place_of k (length t.units.
           (λ e. sym (ap row_of reads_back))
 
       pub fit_accepted : (xs ys : List ℕ) → xs ≡ entries_of f.inputs → ys ≡ entries_of f.outputs → (row_in t.units.now i).state ≡ Free → Accepted (fit_edit k f) t (with_units t (set t.units.now i (record { state = Standing; inputs = xs; outputs = ys })))
-      fit_accepted xs ys are-inputs are-outputs is = rw (are-inputs, are-outputs) (fit_row is)
+      fit_accepted xs ys are_inputs are_outputs is = rw (are_inputs, are_outputs) (fit_row is)
 
--- the place of a withheld unit's row
+-- only a withheld unit's row says so
 withheld_state : (s : State) (f : Fitted) → is_withheld (in_state s f) ≡ true → s ≡ Withheld
 withheld_state Free f h = absurd (false≢true h)
 withheld_state Standing f h = absurd (false≢true h)
 withheld_state Withheld f h = refl
 
+-- the place of a withheld unit's row is told: what the row holds, and the edits that write it
 module _ (t : TableBook) (k i : ℕ) (e : Some i ≡ cond (withheld_at (table_meaning t) k) (Some (k - 1)) None) where
   withheld_is : (withheld_at (table_meaning t) k ≡ true) × (k - 1 ≡ i)
   withheld_is = cond_some _ (k - 1) i (sym e)

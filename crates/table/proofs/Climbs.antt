@@ -1,7 +1,7 @@
 -- Lists that climb: how a loop goes along one, and what a row's entries stand for.
-use Rattle.std.proofs.Common.{◌≡◌, ℕ, zero, suc, ◌+◌, ◌-◌, ◌<◌, ◌≤◌, Bool, ◌&&◌, ltb, leb, ◌⊎◌, List, [], ◌∷◌, ◌++◌, length, get_or, take, drop, replicate, sym, ap, ◌∙◌, refl, true, false, inl, ⊎_elim, append_assoc, arith, length-append}
-use Rattle.std.proofs.lemmas.List.{at_drop_more, take_more, take_all, drop_all, append-nil, length-replicate}
-use Rattle.std.proofs.lemmas.Bool.{and_left, and_right, and_from, and_parts, cond-true, cond-false, le-ltb, lt-ltb, lt-leb, le-leb, leb-true}
+use Rattle.std.proofs.Common.{◌≡◌, ℕ, zero, suc, ◌-◌, ◌<◌, ◌≤◌, Bool, ◌&&◌, ltb, leb, ◌⊎◌, List, [], ◌∷◌, ◌++◌, length, get_or, take, drop, replicate, sym, ap, ◌∙◌, refl, true, false, inl, ⊎_elim, arith, length-append}
+use Rattle.std.proofs.lemmas.List.{at_drop_more, take_all, append-nil, length-replicate}
+use Rattle.std.proofs.lemmas.Bool.{and_left, and_right, and_parts, cond-true, cond-false, le-ltb, lt-leb, leb-true}
 use Rattle.std.proofs.Math.Bool.{and_assoc}
 use Rattle.book.specs.Declined.{climbs, fitting}
 use Rattle.book.specs.Climbing.{climbing}

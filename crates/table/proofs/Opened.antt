@@ -4,10 +4,10 @@ use Rattle.std.proofs.lemmas.List.{append-nil, drop_all, length-replicate, take_
 use Rattle.std.proofs.lemmas.Slice.{drop-append-drop}
 use Rattle.std.proofs.lemmas.Bool.{cases_lt}
 use Rattle.book.specs.declared.Refusal.{Refusal}
+use Rattle.book.specs.declared.books.Class.{Class}
 use Rattle.book.specs.Meaning.{Meaning, free}
 use Rattle.book.specs.Asked.{plain}
 use Rattle.book.specs.Edits.{Edit, Edited}
-use Rattle.book.specs.declared.books.Class.{Class}
 use Rattle.table.specs.declared.rows.UnitRow.{UnitRow}
 use Rattle.table.specs.declared.TableBook.{TableBook}
 use Rattle.table.specs.Rows.{most_rows, used, material_in, state_in, materials_in, units_in, of_rows, row_of, Exact, RowsKept, fresh, plain_row, new_book}
@@ -31,6 +31,7 @@ module _ {R : Type 0} (row : R) (rows : List R) where
       ∙ ap (λ m. replicate (used rows) row ++ drop m rows) count
       ∙ ap (λ rest. replicate (used rows) row ++ rest) drop_used
 
+  -- the rows that are used are all alike, and the others stay
   take_fresh : take most_rows (fresh row rows) ≡ replicate (used rows) row
   take_fresh =
       let size = length-replicate (used rows) row in
@@ -50,6 +51,7 @@ module _ {R : Type 0} (row : R) (rows : List R) where
         ∙ drop-append-drop (used rows) rows (replicate (used rows) row) most_rows (omega arith) (length-replicate (used rows) row);
   }
 
+-- what is read of rows that are all alike
 map_replicate : {X Y : Type 0} (g : X → Y) (n : ℕ) (x : X) → map g (replicate n x) ≡ replicate n (g x)
 map_replicate g zero x = refl
 map_replicate g (suc n) x = ap (λ ys. g x ∷ ys) (map_replicate g n x)
@@ -60,6 +62,7 @@ materials_fresh rows = ap (map material_in) (take_fresh plain_row rows) ∙ map_
 units_fresh : (l : ℕ) (rows : List UnitRow) → units_in l (fresh (row_of free) rows) ≡ replicate (used rows) free
 units_fresh l rows = ap (map (state_in l)) (take_fresh (row_of free) rows) ∙ map_replicate (state_in l) (used rows) (row_of free)
 
+-- such rows hold exactly what they mean, and that is a new book
 pub exact_fresh : (l : ℕ) (rows : List UnitRow) → Exact l (fresh (row_of free) rows)
 exact_fresh l rows = take_fresh (row_of free) rows ∙ sym (ap (map row_of) (units_fresh l rows) ∙ map_replicate row_of (used rows) free)
 
@@ -70,10 +73,11 @@ of_rows_fresh ms us =
 
 -- what is known of lent rows once a table that was made over them is gone: `opened` is the table as it was made, `after`
 -- as it was left, and ms and us are the rows, which the table's references led to
-module _ (opened after : TableBook) (ms : List Class) (us : List UnitRow) (there-ms : ms ≡ after.materials.now) (there-us : us ≡ after.units.now) where
+module _ (opened after : TableBook) (ms : List Class) (us : List UnitRow) (there_ms : ms ≡ after.materials.now) (there_us : us ≡ after.units.now) where
   meant_after : of_rows ms us ≡ table_meaning after
-  meant_after = ap (λ rows. of_rows rows us) there-ms ∙ ap (of_rows after.materials.now) there-us
+  meant_after = ap (λ rows. of_rows rows us) there_ms ∙ ap (of_rows after.materials.now) there_us
 
+  -- what an edit told of the table is true of the rows
   pub left_told : (start : Meaning) (edit : Meaning → Edit) (answer : Result (Unit {0}) Refusal) → table_meaning opened ≡ start → Edited table_meaning edit opened after answer → Edited (λ m. m) edit start (of_rows ms us) answer
   left_told start edit (Ok x) meant told =
       subst (λ m. Edited (λ m. m) edit m (of_rows ms us) (Ok x)) meant (told.0, meant_after ∙ told.1)
@@ -82,8 +86,8 @@ module _ (opened after : TableBook) (ms : List Class) (us : List UnitRow) (there
 
   pub left_exact : Exact (used opened.materials.now) opened.units.now → TableKept opened after → Exact (used ms) us
   left_exact exact kept =
-      subst (λ rows. Exact (used rows) us) (sym there-ms)
-      (subst (Exact (used after.materials.now)) (sym there-us) (kept.exact exact))
+      subst (λ rows. Exact (used rows) us) (sym there_ms)
+      (subst (Exact (used after.materials.now)) (sym there_us) (kept.exact exact))
 
 -- rows that were made anew are kept from before they were
 kept_since : {R : Type 0} (row : R) (start made left rows : List R) → made ≡ fresh row start → rows ≡ left → RowsKept made left → RowsKept start rows

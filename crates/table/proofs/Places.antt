@@ -7,6 +7,7 @@ use Rattle.std.proofs.lemmas.Option.{cond_some, slice_get-get_or, slice_get_past
 use Rattle.book.specs.Declined.{inside}
 use Rattle.book.specs.Asked.{where_inside}
 
+-- the test of such a number, against its bounds
 pub inside_bounds : (k count : ℕ) → inside k count ≡ true → (1 ≤ k) × (k ≤ count)
 inside_bounds k count h = grind (arith, nat_tests)
 

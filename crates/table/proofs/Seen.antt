@@ -4,11 +4,11 @@ use Rattle.std.specs.Option.{option_map, option_and_then}
 use Rattle.std.proofs.lemmas.List.{get_or-map, get_or-take}
 use Rattle.std.proofs.lemmas.Option.{slice_get_cases}
 use Rattle.std.proofs.lemmas.Bool.{cond-true, cond-false, cases_Bool}
-use Rattle.book.specs.Meaning.{free, material_count}
 use Rattle.book.specs.declared.books.Side.{Side}
+use Rattle.book.specs.declared.books.State.TheVariants.{Free}
+use Rattle.book.specs.Meaning.{free, material_count}
 use Rattle.book.specs.Declined.{inside, is_standing}
 use Rattle.book.specs.Asked.{where_inside, plain, wanted_at, bought_at, stands_at, told_of, fitted_at, count_in, entry_in, list_on, entry_count_at, entry_at}
-use Rattle.book.specs.declared.books.State.TheVariants.{Free}
 use Rattle.table.specs.declared.TableBook.{TableBook}
 use Rattle.table.specs.declared.rows.UnitRow.{UnitRow}
 use Rattle.table.specs.Rows.{most_rows, used, found, material_in, fitted_in, state_in}
@@ -29,6 +29,7 @@ abbrev pub asked : {X Y : Type 0} → List X → X → ℕ → (X → Option Y) 
 asked xs none k f = cond (inside k (length xs)) (f (get_or xs (k - 1) none)) None
 
 module _ {R X : Type 0} (g : R → X) (rows : List R) (k : ℕ) where
+  -- a number that has a row is inside
   pub row_inside : inside k (length (read g rows)) ≡ inside k (used rows)
   row_inside = ap (inside k) (count_read g rows)
 
@@ -40,7 +41,7 @@ module _ {R X : Type 0} (g : R → X) (rows : List R) (k : ℕ) where
       get_or-map g (take most_rows rows) (k - 1) e none short
       ∙ ap g (get_or-take most_rows rows (k - 1) e (omega arith))
 
-  -- so a question is answered from the row, or by absence
+  -- so a question is answered from the row, or by absence; one that has an answer for each row likewise
   pub asked_row : {Y : Type 0} (none : X) (f : X → Option Y) → asked (read g rows) none k f ≡ option_and_then (λ r. f (g r)) (found k rows)
   asked_row none f = elim (cases_Bool (inside k (used rows))) [
     | inr out ↦
@@ -57,7 +58,9 @@ module _ {R X : Type 0} (g : R → X) (rows : List R) (k : ℕ) where
   ]
 
   pub value_of_row : {Y : Type 0} (none : X) (f : X → Y) → asked (read g rows) none k (λ x. Some (f x)) ≡ option_map (λ r. f (g r)) (found k rows)
-  value_of_row none f = asked_row none (λ x. Some (f x)) ∙ elim (found k rows) as (λ o. option_and_then (λ r. Some (f (g r))) o ≡ option_map (λ r. f (g r)) o) [ None ↦ refl | Some r ↦ refl ]
+  value_of_row none f =
+      asked_row none (λ x. Some (f x))
+      ∙ elim (found k rows) as (λ o. option_and_then (λ r. Some (f (g r))) o ≡ option_map (λ r. f (g r)) o) [ None ↦ refl | Some r ↦ refl ]
 
 -- what the table tells of number k, by the row that the number has
 module _ (t : TableBook) (k : ℕ) where

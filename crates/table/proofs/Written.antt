@@ -59,7 +59,7 @@ withheld_holds f = refl
 
 -- an exact row stays so from one such state to another
 pub restated_exact : (l : ℕ) (row : UnitRow) (s t : State) → Holding s → Holding t → row.state ≡ s → ExactRow l row → ExactRow l (restated row t)
-restated_exact l row s t of-s of-t is e =
+restated_exact l row s t of_s of_t is e =
     let f = fitted_in l row in
-    let whole : row ≡ fitted_row s f = e ∙ ap (λ u. row_of (in_state u f)) is ∙ of-s f in
-    ap (λ r. restated r t) whole ∙ sym (of-t f)
+    let whole : row ≡ fitted_row s f = e ∙ ap (λ u. row_of (in_state u f)) is ∙ of_s f in
+    ap (λ r. restated r t) whole ∙ sym (of_t f)

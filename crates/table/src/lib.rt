@@ -34,9 +34,9 @@ impl<'a> TableBook<'a> {
         ensures meaning { table_meaning result ≡ new_book (used materials.old) (used units.old) }
         ensures exact { Exact (used result.materials.now) result.units.now }
     {
-        let count = used(materials.len()) as usize;
+        let count = usize::from(used(materials.len()));
         materials[..count].fill(MaterialRow::PLAIN);
-        let count = used(units.len()) as usize;
+        let count = usize::from(used(units.len()));
         units[..count].fill(UnitRow::FREE);
         TableBook { materials, units }
     }

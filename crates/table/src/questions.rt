@@ -47,7 +47,7 @@ impl<'a> Book for TableBook<'a> {
         let row = self.standing_row(unit)?;
         let index = place.checked_sub(1)?;
         let list = row.list(side, self.materials());
-        list.get(index as usize).copied()
+        list.get(usize::from(index)).copied()
     }
 }
 

@@ -56,8 +56,8 @@ pub(crate) fn used(rows: usize) -> u16
 pub(crate) fn row_place(number: u16, rows: usize) -> Option<usize>
     ensures { result ≡ (if inside number (min 512 rows) then Some (number - 1) else None) }
 {
-    if number >= 1 && number <= used(rows) {
-        Some(number as usize - 1)
+    if (1..=used(rows)).contains(&number) {
+        Some(usize::from(number) - 1)
     } else {
         None
     }

@@ -1,12 +1,10 @@
 -- Each reason in its order, and the row of the unit where none holds.
-use Rattle.std.proofs.Common.{◌≡◌, true, false, ◌&&◌, rules, sym, ◌∙◌}
+use Rattle.std.proofs.Common.{◌≡◌, true, false, rules, sym, ◌∙◌}
 use Rattle.book.specs.declared.books.State.TheVariants.{Free}
 use Rattle.book.specs.declared.Refusal.TheVariants.{OutOfRange}
-use Rattle.book.specs.Meaning.{material_count}
-use Rattle.book.specs.Declined.{fitting, is_free}
+use Rattle.book.specs.Declined.{is_free}
 use Rattle.book.specs.Edits.{lists_given, fit_edit}
 use Rattle.table.specs.Rows.{used, state_in}
-use Rattle.table.specs.Tables.{table_meaning}
 use Rattle.table.proofs.Seen.{row_in}
 use Rattle.table.proofs.Changes.{lists_fit, refused, fit_outside, fit_bad_list, fit_not_free, fit_accepted}
 use Rattle.table.proofs.edits.TableBookEditableBook.fit.Goals as goal
