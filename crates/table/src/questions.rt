@@ -34,8 +34,7 @@ impl<'a> Book for TableBook<'a> {
     }
 
     fn stands(&mut self, unit: u16) -> Option<bool> {
-        self.unit_row(unit)
-            .map(|row| row.state == RowState::Standing)
+        self.state(unit).map(|state| state == RowState::Standing)
     }
 
     fn entry_count(&mut self, unit: u16, side: Side) -> Option<u16> {
@@ -56,21 +55,22 @@ impl<'a> TableBook<'a> {
     fn material_row(&self, material: u16) -> Option<MaterialRow>
         ensures { result ≡ found material self.now.materials.now }
     {
-        row_at(self.materials, material)
+        row_at(self.materials, material).copied()
     }
 
-    // The row of a unit number.
-    fn unit_row(&self, unit: u16) -> Option<UnitRow>
-        ensures { result ≡ found unit self.now.units.now }
+    // The state of a unit number.
+    fn state(&self, unit: u16) -> Option<RowState>
+        ensures { result ≡ option_map (λ row. row.state) (found unit self.now.units.now) }
     {
-        row_at(self.units, unit)
+        row_at(self.units, unit).map(|row| row.state)
     }
 
     // The row of a standing unit.
     fn standing_row(&self, unit: u16) -> Option<UnitRow>
         ensures { option_map (fitted_in (material_count (table_meaning self.now))) result ≡ fitted_at unit (table_meaning self.now) }
     {
-        self.unit_row(unit)
+        row_at(self.units, unit)
             .filter(|row| row.state == RowState::Standing)
+            .copied()
     }
 }

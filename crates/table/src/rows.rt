@@ -1,5 +1,6 @@
 // Rows of a table: what they hold, how many of them a table uses, and where a number's row is.
 ghost use Rattle.std.specs.Prelude.{◌≡◌, ◌-◌, ◌≤◌, min, length, if◌then◌else◌, Some, None};
+ghost use Rattle.std.specs.Option.{option_copied};
 ghost use Rattle.book.specs.Declined.{inside};
 ghost use Rattle.book.specs.Asked.{list_on};
 ghost use Rattle.table.specs.Rows.{fitted_in, found};
@@ -64,9 +65,9 @@ pub(crate) fn row_place(number: u16, rows: usize) -> Option<usize>
 }
 
 // The row with that number, where the table uses one.
-pub(crate) fn row_at<R: Copy>(rows: &[R], number: u16) -> Option<R>
-    ensures { result ≡ found number rows.now }
+pub(crate) fn row_at<R>(rows: &[R], number: u16) -> Option<&R>
+    ensures { option_copied result ≡ found number rows.now }
 {
     let place = row_place(number, rows.len())?;
-    rows.get(place).copied()
+    rows.get(place)
 }
