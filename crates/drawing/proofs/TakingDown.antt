@@ -9,7 +9,8 @@ use Rattle.structure.proofs.Bounds.{problem_bounded}
 use Rattle.drawing.specs.declared.network.Side.{Side}
 use Rattle.drawing.specs.declared.network.Network.{Network}
 use Rattle.drawing.specs.Network.{list_at, taken_down, SoundSide, Sound}
-use Rattle.drawing.specs.TakingDown.{Flags, Holds, with_entry, with_list}
+use Rattle.drawing.specs.Network.{Flags}
+use Rattle.drawing.specs.TakingDown.{Holds, with_entry, with_list}
 
 -- f of the numbers below n; of any other it is `none`
 abbrev pub below : {X : Type 0} → ℕ → X → (ℕ → X) → ℕ → X

@@ -8,6 +8,11 @@ use Rattle.drawing.specs.declared.network.Network.{Network}
 abbrev pub flagged : List Bool → Numbers
 flagged flags k = slice_index_or flags k false
 
+-- flags for 0 to 1,024, set for the numbers of s
+pub record Flags (flags : List Bool) (s : Numbers) : Type 0 where
+  pub long : length flags ≡ 1025
+  pub each : (k : ℕ) → flagged flags k ≡ s k
+
 -- unit u's list on this side: its entries stand from place 8 u on
 abbrev pub list_at : Side → ℕ → List ℕ
 list_at s u = take (slice_index s.counts u) (drop (8 * u) s.entries)

@@ -1,12 +1,12 @@
 -- What is held of a book while it is taken down.
-use Rattle.std.specs.Prelude.{◌≡◌, ℕ, Bool, cond, List, [], ◌∷◌, ◌++◌, length, ◌==◌}
+use Rattle.std.specs.Prelude.{◌≡◌, ℕ, cond, List, [], ◌∷◌, ◌++◌, ◌==◌}
 use Rattle.book.specs.Meaning.{Fitted, Meaning}
 use Rattle.book.specs.Asked.{fitted_at}
-use Rattle.structure.specs.Problem.{Numbers, list_of}
+use Rattle.structure.specs.Problem.{list_of}
 use Rattle.drawing.specs.declared.network.Side.{Side}
 use Rattle.drawing.specs.declared.takedown.Direction.{Direction}
 use Rattle.drawing.specs.declared.takedown.Direction.TheVariants.{Taken, Made}
-use Rattle.drawing.specs.Network.{flagged, list_at, SoundSide}
+use Rattle.drawing.specs.Network.{list_at, SoundSide}
 
 -- the list that is meant, of the two that a unit is fitted with
 abbrev pub list_in : Direction → Fitted → List ℕ
@@ -16,11 +16,6 @@ list_in Made f = f.outputs
 -- what a book tells of it; of a number that does not stand nothing is told
 abbrev pub list_told : Direction → ℕ → Meaning → List ℕ
 list_told d u m = list_of (list_in d) (fitted_at u m)
-
--- flags for 0 to 1,024, set for the numbers of s
-pub record Flags (flags : List Bool) (s : Numbers) : Type 0 where
-  pub long : length flags ≡ 1025
-  pub each : (k : ℕ) → flagged flags k ≡ s k
 
 -- a side that can be walked, with these lists
 pub record Holds (s : Side) (lists : ℕ → List ℕ) : Type 0 where

@@ -20,12 +20,10 @@ fn meet(some: &[bool; NUMBERS], others: &[bool; NUMBERS], last: u16) -> bool
     requires { last ≤ 1024 }
     ensures { Decides result (MeetBelow (flagged some.now) (flagged others.now) last) }
 {
-    for number in 0..last as usize + 1 {
-        if some[number] && others[number] {
-            return true;
-        }
-    }
-    false
+    some[..last as usize + 1]
+        .iter()
+        .zip(others)
+        .any(|(some, other)| *some && *other)
 }
 
 // Refuses what cannot be drawn at all: nothing wanted, nothing bought, or some material both.
@@ -50,12 +48,10 @@ fn all_made(network: &Network, makers: &[u16; NUMBERS]) -> bool
     requires { Sound network.now }
     ensures { Decides result ((x : ℕ) → Member (flagged network.now.wanted) x → 0 < slice_index makers.now x) }
 {
-    for material in 0..network.materials as usize + 1 {
-        if network.wanted[material] && makers[material] == 0 {
-            return false;
-        }
-    }
-    true
+    network.wanted[..network.materials as usize + 1]
+        .iter()
+        .zip(makers)
+        .all(|(wanted, makers)| !*wanted || *makers > 0)
 }
 
 // Draws what was taken down.

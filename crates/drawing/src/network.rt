@@ -1,5 +1,8 @@
 // What a draw takes down of a book: each question is asked once, and every list can be walked by unit and by material.
 
+ghost use Rattle.std.specs.Prelude.{false};
+ghost use Rattle.drawing.specs.Network.{Flags};
+
 // Places for numbers 0 to 1,024, of which 0 is nobody's.
 pub const NUMBERS: usize = 1025;
 
@@ -30,4 +33,11 @@ pub(crate) struct Network {
     pub(crate) standing: [bool; NUMBERS],
     pub(crate) inputs: Side,
     pub(crate) outputs: Side,
+}
+
+// Flags of which none is set.
+pub(crate) fn no_flags() -> [bool; NUMBERS]
+    ensures { Flags result (λ _. false) }
+{
+    [false; NUMBERS]
 }

@@ -8,7 +8,7 @@ ghost use Rattle.sheet.specs.Sheets.{contents};
 ghost use Rattle.drawing.specs.Network.{flagged, list_at, taken_down, SoundSide, Sound};
 ghost use Rattle.drawing.specs.Picture.{MarksFor, ranked as ranked_in, UpTo, Pictured};
 
-use crate::network::{LIST, NUMBERS, Network, Side};
+use crate::network::{LIST, NUMBERS, Network, Side, no_flags};
 use sheet::{PLACES, Sheet};
 use structure::Mark;
 
@@ -30,8 +30,8 @@ fn marks_for(drawn: &[bool; NUMBERS], there: &[bool; NUMBERS]) -> [Mark; PLACES]
     ensures { MarksFor (flagged drawn.now) (flagged there.now) result }
 {
     let mut marks = [Mark::Unasked; PLACES];
-    for place in 0..PLACES {
-        marks[place] = mark_for(drawn[place + 1], there[place + 1]);
+    for (place, mark) in marks.iter_mut().enumerate() {
+        *mark = mark_for(drawn[place + 1], there[place + 1]);
     }
     marks
 }
@@ -41,9 +41,9 @@ fn ranked(ranks: &[u16; NUMBERS]) -> [bool; NUMBERS]
     ensures long { length result ≡ 1025 }
     ensures each { (u : ℕ) → flagged result u ≡ ranked_in ranks.now u }
 {
-    let mut flags = [false; NUMBERS];
-    for unit in 0..NUMBERS {
-        flags[unit] = ranks[unit] > 0;
+    let mut flags = no_flags();
+    for (unit, rank) in ranks.iter().enumerate() {
+        flags[unit] = *rank > 0;
     }
     flags
 }
@@ -53,10 +53,8 @@ fn up_to(last: u16) -> [bool; NUMBERS]
     requires { last ≤ 1024 }
     ensures { UpTo last (flagged result) }
 {
-    let mut flags = [false; NUMBERS];
-    for place in 0..last as usize {
-        flags[place + 1] = true;
-    }
+    let mut flags = no_flags();
+    flags[1..last as usize + 1].fill(true);
     flags
 }
 
@@ -76,9 +74,8 @@ fn touched(network: &Network, units: &[bool; NUMBERS]) -> [bool; NUMBERS]
     requires { (Sound network.now) × (Within (flagged units.now) (flagged network.now.standing)) }
     ensures { Spanned (taken_down network.now) (flagged units.now) (flagged result) }
 {
-    let mut flags = [false; NUMBERS];
-    for place in 0..network.units {
-        let unit = place + 1;
+    let mut flags = no_flags();
+    for unit in 1..=network.units {
         if units[unit as usize] {
             flag_list(&network.inputs, unit, &mut flags);
             flag_list(&network.outputs, unit, &mut flags);

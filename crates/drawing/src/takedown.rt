@@ -2,10 +2,10 @@
 ghost use Rattle.std.specs.Prelude.{◌≡◌, ℕ, ◌-◌, ◌<◌, ◌≤◌, false, [], length, slice_index};
 ghost use Rattle.book.specs.Meaning.{material_count, unit_count};
 ghost use Rattle.structure.specs.Problem.{problem};
-ghost use Rattle.drawing.specs.Network.{list_at, taken_down, SoundSide, Sound};
-ghost use Rattle.drawing.specs.TakingDown.{list_told, Flags, Holds, with_entry, with_list};
+ghost use Rattle.drawing.specs.Network.{Flags, list_at, taken_down, SoundSide, Sound};
+ghost use Rattle.drawing.specs.TakingDown.{list_told, Holds, with_entry, with_list};
 
-use crate::network::{ENTRIES, LIST, NUMBERS, Network, Side};
+use crate::network::{ENTRIES, LIST, NUMBERS, Network, Side, no_flags};
 use book::Book;
 
 // Which of a unit's two lists is meant: what it takes, or what it makes.
@@ -129,13 +129,6 @@ fn entry<B: Book>(book: &mut B, direction: Direction, unit: u16, place: u16) -> 
         Direction::Made => book.output(unit, place),
     };
     told.unwrap_or(0)
-}
-
-// Flags of which none is set.
-fn no_flags() -> [bool; NUMBERS]
-    ensures { Flags result (λ _. false) }
-{
-    [false; NUMBERS]
 }
 
 // A side with no entry.

@@ -8,5 +8,5 @@ loop-place-preserved c = (
   length-set _ _ _ ∙ c.loop-place.invariant.0,
   below_more _ _
       (λ k h. let ne : k ≢ c.loop-place.place = omega arith in get_or-set_other _ _ k _ Unasked ne ∙ c.loop-place.invariant.1 k h)
-      (get_or-set_same c.loop-place.marks c.loop-place.place _ Unasked (omega (arith, c.loop-place.invariant.0)) ∙ c.mark_for.ensures),
+      (get_or-set_same c.loop-place.mark-items c.loop-place.place _ Unasked (omega (arith, c.loop-place.invariant.0)) ∙ c.mark_for.ensures),
 )

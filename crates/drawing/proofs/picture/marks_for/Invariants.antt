@@ -5,4 +5,4 @@ use Rattle.drawing.specs.Network.{flagged}
 use Rattle.drawing.proofs.picture.marks_for.Given as goal
 
 abbrev pub invariant-loop-place : goal.invariant-loop-place
-invariant-loop-place l = (length l.marks ≡ 1024) × ((k : ℕ) → k < l.place → get_or l.marks k Unasked ≡ mark_for (flagged l.drawn (k + 1)) (flagged l.there (k + 1)))
+invariant-loop-place l = (length l.mark-items ≡ 1024) × ((k : ℕ) → k < l.place → get_or l.mark-items k Unasked ≡ mark_for (flagged l.drawn (k + 1)) (flagged l.there (k + 1)))

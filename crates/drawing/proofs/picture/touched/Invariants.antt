@@ -1,7 +1,7 @@
 use Rattle.std.proofs.Common.{◌≡◌, ℕ, length, Decides}
 use Rattle.drawing.specs.Network.{flagged, taken_down}
-use Rattle.drawing.proofs.Touching.{TouchedTo}
+use Rattle.drawing.proofs.Touching.{TouchedBelow}
 use Rattle.drawing.proofs.picture.touched.Given as goal
 
-abbrev pub invariant-loop-place : goal.invariant-loop-place
-invariant-loop-place l = (length l.flags ≡ 1025) × ((x : ℕ) → Decides (flagged l.flags x) (TouchedTo (taken_down l.network) (flagged l.units) l.place x))
+abbrev pub invariant-loop-unit : goal.invariant-loop-unit
+invariant-loop-unit l = (length l.flags ≡ 1025) × ((x : ℕ) → Decides (flagged l.flags x) (TouchedBelow (taken_down l.network) (flagged l.units) l.unit x))

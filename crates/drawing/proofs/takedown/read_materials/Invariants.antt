@@ -1,7 +1,7 @@
 -- The materials so far are read.
 use Rattle.std.proofs.Common.{◌≡◌, ◌+◌, false}
 use Rattle.structure.specs.Problem.{problem}
-use Rattle.drawing.specs.TakingDown.{Flags}
+use Rattle.drawing.specs.Network.{Flags}
 use Rattle.drawing.proofs.TakingDown.{below}
 use Rattle.drawing.proofs.takedown.read_materials.Given as goal
 

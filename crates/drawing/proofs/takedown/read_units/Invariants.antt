@@ -1,7 +1,8 @@
 -- The units so far are read.
 use Rattle.std.proofs.Common.{◌≡◌, ◌+◌, false, []}
 use Rattle.structure.specs.Problem.{problem}
-use Rattle.drawing.specs.TakingDown.{Flags, Holds}
+use Rattle.drawing.specs.Network.{Flags}
+use Rattle.drawing.specs.TakingDown.{Holds}
 use Rattle.drawing.proofs.TakingDown.{below}
 use Rattle.drawing.proofs.takedown.read_units.Given as goal
 

@@ -3,7 +3,8 @@ use Rattle.std.proofs.Common.{◌≡◌, sym, ◌∙◌, subst}
 use Rattle.book.specs.Meaning.{material_count, unit_count}
 use Rattle.structure.specs.Problem.{problem}
 use Rattle.drawing.specs.declared.network.Network.{Network}
-use Rattle.drawing.specs.TakingDown.{Flags, Holds}
+use Rattle.drawing.specs.Network.{Flags}
+use Rattle.drawing.specs.TakingDown.{Holds}
 use Rattle.drawing.proofs.Telling.{asked_again}
 use Rattle.drawing.proofs.TakingDown.{problem_seen, network_sound}
 use Rattle.drawing.proofs.takedown.take_down.Goals as goal
