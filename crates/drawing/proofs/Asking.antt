@@ -4,9 +4,8 @@ use Rattle.std.proofs.lemmas.List.{append_assoc, length-set, length-append, get_
 use Rattle.std.proofs.lemmas.List.Sums.{sum_by-set, count_by-le-length}
 use Rattle.std.proofs.lemmas.Bool.{both_ways, cases_eq, cond-false}
 use Rattle.structure.specs.Problem.{Member, Within}
-use Rattle.drawing.specs.declared.network.Side.{Side}
 use Rattle.drawing.specs.declared.composition.Need.{Need}
-use Rattle.drawing.specs.Network.{flagged}
+use Rattle.drawing.specs.Flags.{flagged}
 use Rattle.drawing.specs.Composition.{Among, Awaited, asked_for, Asked}
 use Rattle.drawing.proofs.Queued.{among_cases, awaited_left, awaited_right, level_append}
 
@@ -90,19 +89,3 @@ module _ {Sought : ℕ → Type 0} {r : ℕ} {asked : List Bool} {q : List Need}
         (b.told x i);
     counted = omega (arith, a.counted, b.counted, length-append a.added b.added);
   }
-
--- x stands at one of the first j places of unit u
-abbrev pub Listed : Side → ℕ → ℕ → ℕ → Type 0
-Listed s u j x = (i : ℕ) × (i < j) × (get_or s.entries (8 * u + i) 0 ≡ x)
-
-module _ (s : Side) (u j : ℕ) where
-  pub listed_more : (x : ℕ) → Listed s u j x → Listed s u (j + 1) x
-  listed_more x (i, h, e) = (i, omega arith, e)
-
-  pub listed_here : Listed s u (j + 1) (get_or s.entries (8 * u + j) 0)
-  listed_here = (j, omega arith, refl)
-
-  pub listed_cases : (x : ℕ) → Listed s u (j + 1) x → Listed s u j x ⊎ (x ≡ get_or s.entries (8 * u + j) 0)
-  listed_cases x (i, h, e) =
-      ⊎_elim (λ (c : i ≡ j). inr (sym e ∙ ap (λ (k : ℕ). get_or s.entries (8 * u + k) 0) c))
-      (λ (c : i ≡ j → ⊥). inl (i, omega arith, e)) (cases_eq i j)

@@ -4,7 +4,7 @@ use Rattle.std.proofs.lemmas.List.{length-set, length_push, length-take-le, get_
 use Rattle.std.proofs.lemmas.List.Sums.{sum_by_more, count_by_more_yes, count_by-le-length}
 use Rattle.std.proofs.lemmas.Bool.{cases_eq, cases_Bool, cond-true, cond-false, both_ways, eq-eqb, false≢true}
 use Rattle.structure.specs.Problem.{Problem, Bounded}
-use Rattle.drawing.specs.Network.{flagged}
+use Rattle.drawing.specs.Flags.{flagged}
 use Rattle.drawing.specs.Reduction.{Among, times, arcs_below, Eligible, Unmade, Enlisted, Seeded}
 use Rattle.drawing.proofs.Entries.{names_kept, names_last, names_pushed}
 use Rattle.drawing.proofs.Arcs.{arcs_same}

@@ -1,6 +1,6 @@
 pub mod Members
 pub mod Walks
-pub mod Flags
+pub mod Flagging
 pub mod Touching
 pub mod Showing
 pub mod Deciding

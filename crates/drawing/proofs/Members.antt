@@ -3,8 +3,8 @@ use Rattle.std.proofs.Common.{◌≡◌, ℕ, zero, suc, ◌+◌, ◌-◌, ◌*�
 use Rattle.std.proofs.lemmas.List.{get_or-take, get_or-drop, length-take, length-drop, get_or_past}
 use Rattle.std.proofs.lemmas.Bool.{or_cases, or_left, or_right, eqb-true, eq-eqb, false≢true, cases_lt}
 use Rattle.book.specs.Layers.{names}
-use Rattle.drawing.specs.declared.network.Side.{Side}
-use Rattle.drawing.specs.Network.{list_at, SoundSide}
+use Rattle.drawing.specs.declared.lists.SideLists.{SideLists}
+use Rattle.drawing.specs.Sides.{list_at}
 
 -- a list names what stands at one of its places, and nothing else
 pub names_place : (x : ℕ) (xs : List ℕ) → names x xs ≡ true → (k : ℕ) × (k < length xs) × (get_or xs k 0 ≡ x)
@@ -19,20 +19,20 @@ place_names x [] k h e = absurd (omega arith)
 place_names x (y ∷ ys) zero h e = or_left (eqb x y) (names x ys) (eq-eqb x y (sym e))
 place_names x (y ∷ ys) (suc k) h e = or_right (eqb x y) (names x ys) (place_names x ys k (omega arith) e)
 
-module _ (s : Side) (sound : SoundSide s) where
+module _ (s : SideLists) where
   -- units past the last have no entries
   pub past_units : (u j : ℕ) → j < get_or s.counts u 0 → u < 1025
   past_units u j h =
-      ⊎_elim (λ (i : u < 1025). i) (λ (i : 1025 ≤ u). absurd (omega (arith, get_or_past s.counts u 0 (omega (arith, sound.counts_long))))) (cases_lt u 1025)
+      ⊎_elim (λ (i : u < 1025). i) (λ (i : 1025 ≤ u). absurd (omega (arith, get_or_past s.counts u 0 (omega (arith, s.walkable.counts_long))))) (cases_lt u 1025)
 
   pub list_long : (u : ℕ) → u < 1025 → length (list_at s u) ≡ get_or s.counts u 0
   list_long u h = length-take (get_or s.counts u 0) (drop (8 * u) s.entries) ∙ short
     where
       rest : length (drop (8 * u) s.entries) ≡ 8200 - 8 * u
-      rest = length-drop (8 * u) s.entries ∙ ap (λ (n : ℕ). n - 8 * u) sound.entries_long
+      rest = length-drop (8 * u) s.entries ∙ ap (λ (n : ℕ). n - 8 * u) s.walkable.entries_long
 
       short : min (get_or s.counts u 0) (length (drop (8 * u) s.entries)) ≡ get_or s.counts u 0
-      short = omega (arith, rest, sound.few u)
+      short = omega (arith, rest, s.walkable.few u)
 
   -- the entry at place j of unit u
   pub list_place : (u j : ℕ) → j < get_or s.counts u 0 → get_or (list_at s u) j 0 ≡ get_or s.entries (8 * u + j) 0
@@ -54,5 +54,5 @@ module _ (s : Side) (sound : SoundSide s) where
       let split : e ≡ 8 * (e / 8) + e % 8 = omega arith in
       let at : get_or s.entries (8 * (e / 8) + e % 8) 0 ≡ x = ap (λ (k : ℕ). get_or s.entries k 0) (sym split) ∙ i in
       ⊎_elim (λ (h : e % 8 < get_or s.counts (e / 8) 0). named_at (e / 8) (e % 8) x h at)
-      (λ (h : get_or s.counts (e / 8) 0 ≤ e % 8). absurd (omega (arith, at, sound.unlisted (e / 8) (e % 8) h (omega arith))))
+      (λ (h : get_or s.counts (e / 8) 0 ≤ e % 8). absurd (omega (arith, at, s.walkable.unlisted (e / 8) (e % 8) h (omega arith))))
       (cases_lt (e % 8) (get_or s.counts (e / 8) 0))

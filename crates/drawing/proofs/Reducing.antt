@@ -5,7 +5,7 @@ use Rattle.std.proofs.lemmas.List.Sums.{sum_by-take-le}
 use Rattle.std.proofs.lemmas.Bool.{cases_eq, cases_lt, cases_Bool, both_ways, false≢true, lt-ltb, ltb-true}
 use Rattle.structure.specs.Problem.{Numbers, Problem, Member, Within, Bounded, Takes, MadeIn}
 use Rattle.structure.specs.Supported.{Supported, Largest}
-use Rattle.drawing.specs.Network.{flagged}
+use Rattle.drawing.specs.Flags.{flagged}
 use Rattle.drawing.specs.Reduction.{Among, times, arcs, Untaken, Unmade, Enlisted, Seeded, Reducing, Released}
 use Rattle.drawing.proofs.Entries.{names_first, names_rest, names_either}
 use Rattle.drawing.proofs.Arcs.{arcs_removed, made_arcs, arcs_made}

@@ -8,7 +8,7 @@ use Rattle.structure.specs.Structures.Node.{material, unit}
 use Rattle.structure.specs.Structures.Path.{arrived, taken, made}
 use Rattle.structure.specs.Supported.{any}
 use Rattle.drawing.specs.declared.composition.Need.{Need}
-use Rattle.drawing.specs.Network.{flagged}
+use Rattle.drawing.specs.Flags.{flagged}
 use Rattle.drawing.specs.Composition.{Composed, Among, Awaited, Level, Levels, Asked, Ranked, MakersRanked, Due, Spreading}
 use Rattle.drawing.proofs.Queued.{among_cases, awaited_left, awaited_right, level_first, level_rank, levels_append, levels_rest, levels_rank}
 

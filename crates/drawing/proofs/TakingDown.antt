@@ -3,14 +3,12 @@ use Rattle.std.proofs.Common.{◌≡◌, ℕ, ◌+◌, ◌<◌, ◌≤◌, Bool,
 use mathlib.Core.Path.{fun_ext}
 use Rattle.std.proofs.lemmas.List.{get_or-set_same, get_or-set_other}
 use Rattle.std.proofs.lemmas.Bool.{cases_eq, cases_lt, cases_order, lt-ltb, le-ltb, eq-eqb, ne_eqb, cond-true, cond-false}
-use Rattle.book.specs.Meaning.{Meaning, material_count, unit_count, WellFormed}
-use Rattle.structure.specs.Problem.{Numbers, Bounded, problem}
-use Rattle.structure.proofs.Bounds.{problem_bounded}
-use Rattle.drawing.specs.declared.network.Side.{Side}
-use Rattle.drawing.specs.declared.network.Network.{Network}
-use Rattle.drawing.specs.Network.{list_at, taken_down, SoundSide, Sound}
-use Rattle.drawing.specs.Network.{Flags}
-use Rattle.drawing.specs.TakingDown.{Holds, with_entry, with_list}
+use Rattle.book.specs.Meaning.{Meaning, material_count, unit_count}
+use Rattle.structure.specs.Problem.{Numbers, problem}
+use Rattle.drawing.specs.declared.lists.SideLists.{SideLists}
+use Rattle.drawing.specs.Flags.{Flags}
+use Rattle.drawing.specs.Lists.{with_entry, with_list}
+use Rattle.drawing.specs.Sides.{list_at, Holds, problem_of}
 
 -- f of the numbers below n; of any other it is `none`
 abbrev pub below : {X : Type 0} → ℕ → X → (ℕ → X) → ℕ → X
@@ -53,8 +51,8 @@ module _ {X : Type 0} (none : X) (f : ℕ → X) where
 pub flags_like : (flags : List Bool) (s t : Numbers) → Flags flags s → ((k : ℕ) → s k ≡ t k) → Flags flags t
 flags_like flags s t a same = record { long = a.long; each = λ k. a.each k ∙ same k }
 
-pub holds_like : (side : Side) (f g : ℕ → List ℕ) → Holds side f → ((k : ℕ) → f k ≡ g k) → Holds side g
-holds_like side f g a same = record { sound = a.sound; each = λ k. a.each k ∙ same k }
+pub holds_like : (side : SideLists) (f g : ℕ → List ℕ) → Holds side f → ((k : ℕ) → f k ≡ g k) → Holds side g
+holds_like side f g a same k = a k ∙ same k
 
 -- no flag is read yet, and then all are
 pub flags_none : (flags : List Bool) (s : Numbers) → Flags flags (λ _. false) → s 0 ≡ false → Flags flags (below 1 false s)
@@ -79,75 +77,68 @@ flags_more flags s n b l a e = record {
 }
 
 -- no list is read yet, and then all are
-pub lists_none : (side : Side) (f : ℕ → List ℕ) → Holds side (λ _. []) → f 0 ≡ [] → Holds side (below 1 [] f)
+pub lists_none : (side : SideLists) (f : ℕ → List ℕ) → Holds side (λ _. []) → f 0 ≡ [] → Holds side (below 1 [] f)
 lists_none side f a z = holds_like side (λ _. []) (below 1 [] f) a (λ k. sym (below_first [] f z k))
 
-pub lists_all : (side : Side) (f : ℕ → List ℕ) (n : ℕ) → Holds side (below n [] f) → ((j : ℕ) → n ≤ j → f j ≡ []) → Holds side f
+pub lists_all : (side : SideLists) (f : ℕ → List ℕ) (n : ℕ) → Holds side (below n [] f) → ((j : ℕ) → n ≤ j → f j ≡ []) → Holds side f
 lists_all side f n a past = holds_like side (below n [] f) f a (λ k. below_all [] f n k past)
 
 -- a unit with no list adds nothing, and from the next unit on there are none yet
-pub lists_same : (side : Side) (f : ℕ → List ℕ) (n : ℕ) → Holds side (below n [] f) → f n ≡ [] → Holds side (below (n + 1) [] f)
+pub lists_same : (side : SideLists) (f : ℕ → List ℕ) (n : ℕ) → Holds side (below n [] f) → f n ≡ [] → Holds side (below (n + 1) [] f)
 lists_same side f n a z = holds_like side (below n [] f) (below (n + 1) [] f) a (λ k. below_same [] f n k z)
 
-pub lists_past : (side : Side) (f : ℕ → List ℕ) (n : ℕ) → Holds side (below n [] f) → (v : ℕ) → n ≤ v → list_at side v ≡ []
-lists_past side f n a v l = a.each v ∙ not_there [] f n v l
+pub lists_past : (side : SideLists) (f : ℕ → List ℕ) (n : ℕ) → Holds side (below n [] f) → (v : ℕ) → n ≤ v → list_at side v ≡ []
+lists_past side f n a v l = a v ∙ not_there [] f n v l
 
 -- one more list
-pub lists_more : (s t : Side) (f : ℕ → List ℕ) (n : ℕ) (xs : List ℕ) → Holds s (below n [] f) → Holds t (with_list (list_at s) n xs) → xs ≡ f n → Holds t (below (n + 1) [] f)
+pub lists_more : (s t : SideLists) (f : ℕ → List ℕ) (n : ℕ) (xs : List ℕ) → Holds s (below n [] f) → Holds t (with_list (list_at s) n xs) → xs ≡ f n → Holds t (below (n + 1) [] f)
 lists_more s t f n xs a b e =
     holds_like t (with_list (list_at s) n xs) (below (n + 1) [] f) b
-    (λ k. ap (λ (ys : List ℕ). cond (eqb k n) ys (list_at s k)) e ∙ (ap (λ (ys : List ℕ). cond (eqb k n) (f n) ys) (a.each k) ∙ sym (below_more [] f n k)))
+    (λ k. ap (λ (ys : List ℕ). cond (eqb k n) ys (list_at s k)) e ∙ (ap (λ (ys : List ℕ). cond (eqb k n) (f n) ys) (a k) ∙ sym (below_more [] f n k)))
 
 -- a list that is read from its start
-module _ (s : Side) (lists : ℕ → List ℕ) (u : ℕ) (xs : List ℕ) (a : Holds s (with_list lists u xs)) where
+module _ (s : SideLists) (lists : ℕ → List ℕ) (u : ℕ) (xs : List ℕ) (a : Holds s (with_list lists u xs)) where
   pub list_own : list_at s u ≡ xs
-  list_own = a.each u ∙ cond-true (eqb u u) xs (lists u) (eq-eqb u u refl)
+  list_own = a u ∙ cond-true (eqb u u) xs (lists u) (eq-eqb u u refl)
 
   pub list_other : (v : ℕ) → (v ≡ u → ⊥) → list_at s v ≡ lists v
-  list_other v d = a.each v ∙ cond-false (eqb v u) xs (lists v) (ne_eqb v u d)
+  list_other v d = a v ∙ cond-false (eqb v u) xs (lists v) (ne_eqb v u d)
 
-  pub list_more : (t : Side) (x : ℕ) → Holds t (with_entry (list_at s) u x) → Holds t (with_list lists u (xs ++ (x ∷ [])))
+  pub list_more : (t : SideLists) (x : ℕ) → Holds t (with_entry (list_at s) u x) → Holds t (with_list lists u (xs ++ (x ∷ [])))
   list_more t x b =
       holds_like t (with_entry (list_at s) u x) (with_list lists u (xs ++ (x ∷ []))) b
-      (λ v. one_more (eqb v u) (list_at s v) (lists v) (a.each v))
+      (λ v. one_more (eqb v u) (list_at s v) (lists v) (a v))
     where
       one_more : (c : Bool) (ys zs : List ℕ) → ys ≡ cond c xs zs → cond c (ys ++ (x ∷ [])) ys ≡ cond c (xs ++ (x ∷ [])) zs
       one_more true ys zs e = ap (λ (l : List ℕ). l ++ (x ∷ [])) e
       one_more false ys zs e = e
 
-pub list_first : (s : Side) (u : ℕ) → SoundSide s → list_at s u ≡ [] → Holds s (with_list (list_at s) u [])
-list_first s u sound e = record {
-  sound = sound;
-  each = λ v.
-      ⊎_elim
-      (λ (c : v ≡ u). ap (list_at s) c ∙ (e ∙ sym (cond-true (eqb v u) [] (list_at s v) (eq-eqb v u c))))
-      (λ (c : v ≡ u → ⊥). sym (cond-false (eqb v u) [] (list_at s v) (ne_eqb v u c)))
-      (cases_eq v u);
+pub list_first : (s : SideLists) (u : ℕ) → list_at s u ≡ [] → Holds s (with_list (list_at s) u [])
+list_first s u e v =
+    ⊎_elim
+    (λ (c : v ≡ u). ap (list_at s) c ∙ (e ∙ sym (cond-true (eqb v u) [] (list_at s v) (eq-eqb v u c))))
+    (λ (c : v ≡ u → ⊥). sym (cond-false (eqb v u) [] (list_at s v) (ne_eqb v u c)))
+    (cases_eq v u)
+
+-- these were read of a book that means m
+pub record Read (m : Meaning) (materials units : ℕ) (wanted bought standing : List Bool) (inputs outputs : SideLists) : Type 0 where
+  pub materials_told : materials ≡ material_count m
+  pub units_told : units ≡ unit_count m
+  pub wanted_read : Flags wanted (problem m).wanted
+  pub bought_read : Flags bought (problem m).bought
+  pub standing_read : Flags standing (problem m).standing
+  pub inputs_read : Holds inputs (problem m).inputs
+  pub outputs_read : Holds outputs (problem m).outputs
+
+-- they make the problem that the book sets
+pub problem_seen : {m : Meaning} {materials units : ℕ} {wanted bought standing : List Bool} {inputs outputs : SideLists} → Read m materials units wanted bought standing inputs outputs →
+    problem_of materials units wanted bought standing inputs outputs ≡ problem m
+problem_seen r = λ i. record {
+  materials = r.materials_told i;
+  units = r.units_told i;
+  wanted = fun_ext r.wanted_read.each i;
+  bought = fun_ext r.bought_read.each i;
+  standing = fun_ext r.standing_read.each i;
+  inputs = fun_ext r.inputs_read i;
+  outputs = fun_ext r.outputs_read i;
 }
-
--- what is taken down of a book is the problem that it sets, and is sound
-module _ (m : Meaning) (n : Network) (materials : n.materials ≡ material_count m) (units : n.units ≡ unit_count m)
-    (wanted : Flags n.wanted (problem m).wanted) (bought : Flags n.bought (problem m).bought) (standing : Flags n.standing (problem m).standing)
-    (inputs : Holds n.inputs (problem m).inputs) (outputs : Holds n.outputs (problem m).outputs) where
-  pub problem_seen : taken_down n ≡ problem m
-  problem_seen = λ i. record {
-    materials = materials i;
-    units = units i;
-    wanted = fun_ext wanted.each i;
-    bought = fun_ext bought.each i;
-    standing = fun_ext standing.each i;
-    inputs = fun_ext inputs.each i;
-    outputs = fun_ext outputs.each i;
-  }
-
-  pub network_sound : WellFormed m → Sound n
-  network_sound well = record {
-    wanted_long = wanted.long;
-    bought_long = bought.long;
-    standing_long = standing.long;
-    few_materials = omega (arith, well.few_materials);
-    few_units = omega (arith, well.few_units);
-    inputs = inputs.sound;
-    outputs = outputs.sound;
-    bounded = subst Bounded (sym problem_seen) (problem_bounded m well);
-  }

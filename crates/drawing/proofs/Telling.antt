@@ -99,8 +99,6 @@ entry_known m well d u k l =
     let known = All-get_or (λ x. (1 ≤ x) × (x ≤ material_count m)) (list_told d u m) k 0 l (listed m well d u).known in
     (known.0, omega (arith, known.1, well.few_materials))
 
--- the entry at place k + 1 of a book that means the same
-pub entry_here : (d : Direction) (u k x : ℕ) (m n : Meaning) → x ≡ get_or (list_told d u m) (k + 1 - 1) 0 → m ≡ n → x ≡ get_or (list_told d u n) k 0
-entry_here d u k x m n told same =
-    let place : k + 1 - 1 ≡ k = omega arith in
-    told ∙ (ap (λ (i : ℕ). get_or (list_told d u m) i 0) place ∙ ap (λ (w : Meaning). get_or (list_told d u w) k 0) same)
+-- the entry at a place of a book that means the same
+pub entry_here : (d : Direction) (u k x : ℕ) (m n : Meaning) → x ≡ get_or (list_told d u m) k 0 → m ≡ n → x ≡ get_or (list_told d u n) k 0
+entry_here d u k x m n told same = told ∙ ap (λ (w : Meaning). get_or (list_told d u w) k 0) same

@@ -6,7 +6,7 @@ use Rattle.structure.specs.Structures.{Path, Rank}
 use Rattle.structure.specs.Structures.Node.{material, unit}
 use Rattle.structure.specs.Supported.{any}
 use Rattle.drawing.specs.declared.composition.Need.{Need}
-use Rattle.drawing.specs.Network.{flagged}
+use Rattle.drawing.specs.Flags.{flagged}
 
 -- each rank is the least number of units on a path through units of g to a wanted material, and 0 says that there is no
 -- path

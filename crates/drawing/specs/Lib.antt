@@ -1,3 +1,6 @@
+pub mod Flags
+pub mod Lists
+pub mod Sides
 pub mod Network
 pub mod TakingDown
 pub mod Picture

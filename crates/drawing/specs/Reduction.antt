@@ -3,15 +3,11 @@ use Rattle.std.specs.Prelude.{◌≡◌, ℕ, zero, suc, ◌+◌, ◌<◌, ◌�
 use Rattle.book.specs.Layers.{names}
 use Rattle.structure.specs.Problem.{Numbers, Problem, Member, Within, Takes, Makes}
 use Rattle.structure.specs.Supported.{Supported}
-use Rattle.drawing.specs.Network.{flagged}
+use Rattle.drawing.specs.Flags.{flagged}
 
 -- x is one of these
 abbrev pub Among : ℕ → List ℕ → Type 0
 Among x xs = names x xs ≡ true
-
--- each of these has a place among 1,025
-abbrev pub Placed : List ℕ → Type 0
-Placed xs = (k : ℕ) → slice_index xs k ≤ 1024
 
 -- how often x is one of these
 abbrev pub times : ℕ → List ℕ → ℕ

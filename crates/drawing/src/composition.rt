@@ -1,11 +1,16 @@
 // Which live units lead to a wanted material, and by how many units: breadth first, against the arcs.
-ghost use Rattle.std.specs.Prelude.{◌≡◌, ◌+◌, ◌≤◌, ◌∷◌, length};
-ghost use Rattle.structure.specs.Problem.{Member, Takes};
+ghost use Rattle.std.specs.Prelude.{◌≡◌, ◌+◌, ◌≤◌, ◌∷◌, length, true};
+ghost use Rattle.book.specs.Layers.{names};
+ghost use Rattle.structure.specs.Problem.{Member};
 ghost use Rattle.queue.specs.Waiting.{waits, capacity};
-ghost use Rattle.drawing.specs.Network.{flagged, taken_down, Sound};
+ghost use Rattle.drawing.specs.Flags.{flagged};
+ghost use Rattle.drawing.specs.Lists.{Placed};
+ghost use Rattle.drawing.specs.Network.{taken_down};
 ghost use Rattle.drawing.specs.Composition.{Composed, Asked, Spreading, asked_for};
 
-use crate::network::{LIST, NUMBERS, Network};
+use crate::flags::{NUMBERS, no_flags};
+use crate::lists::SideLists;
+use crate::network::Network;
 use queue::WaitingList;
 
 // A material that is needed, and the rank of the units that make it for that need.
@@ -30,7 +35,6 @@ fn ask(material: u16, rank: u16, asked: &mut [bool; NUMBERS], waiting: &mut Wait
 
 // Asks for each wanted material, for units of rank 1.
 fn ask_wanted(network: &Network, asked: &mut [bool; NUMBERS], waiting: &mut WaitingList<Need>)
-    requires sound { Sound network.now }
     requires room { (capacity waiting.old ≡ 1025) × (length (waits waiting.old) ≤ asked_for asked.old) }
     ensures asked { Asked (Member (taken_down network.now).wanted) 1 asked.old (waits waiting.old) asked.new (waits waiting.new) }
     ensures room { capacity waiting.new ≡ capacity waiting.old }
@@ -42,23 +46,20 @@ fn ask_wanted(network: &Network, asked: &mut [bool; NUMBERS], waiting: &mut Wait
     }
 }
 
-// Asks for each material that a unit takes, for units of this rank.
-fn ask_inputs(
-    network: &Network,
-    unit: usize,
+// Asks for each material of a list, for units of this rank.
+fn ask_each(
+    materials: &[u16],
     rank: u16,
     asked: &mut [bool; NUMBERS],
     waiting: &mut WaitingList<Need>,
 )
-    requires sound { Sound network.now }
-    requires known { unit ≤ 1024 }
+    requires known { Placed materials.now }
     requires room { (capacity waiting.old ≡ 1025) × (length (waits waiting.old) ≤ asked_for asked.old) }
-    ensures asked { Asked (Takes (taken_down network.now) unit) rank asked.old (waits waiting.old) asked.new (waits waiting.new) }
+    ensures asked { Asked (λ x. names x materials.now ≡ true) rank asked.old (waits waiting.old) asked.new (waits waiting.new) }
     ensures room { capacity waiting.new ≡ capacity waiting.old }
 {
-    for j in 0..network.inputs.counts[unit] {
-        let x = network.inputs.entries[LIST * unit + j as usize];
-        ask(x, rank, asked, waiting);
+    for x in materials {
+        ask(*x, rank, asked, waiting);
     }
 }
 
@@ -71,22 +72,25 @@ fn rank_makers(
     asked: &mut [bool; NUMBERS],
     waiting: &mut WaitingList<Need>,
 )
-    requires sound { Sound network.now }
     requires spreading { Spreading (taken_down network.now) (flagged live.now) asked.old ranks.old (need ∷ waits waiting.old) need.rank }
     requires room { (capacity waiting.old ≡ 1025) × (need.rank + length (waits waiting.old) ≤ 1 + asked_for asked.old) }
     ensures spreading { Spreading (taken_down network.now) (flagged live.now) asked.new ranks.new (waits waiting.new) need.rank }
     ensures equally { length (waits waiting.new) + asked_for asked.old ≡ length (waits waiting.old) + asked_for asked.new }
     ensures room { capacity waiting.new ≡ capacity waiting.old }
 {
-    let mut link = network.outputs.heads[need.material as usize];
-    while link != 0 {
-        let entry = link as usize - 1;
-        let unit = entry / LIST;
+    let mut next = network.outputs.last_place(need.material);
+    while let Some(place) = next {
+        let unit = SideLists::owner(place);
         if live[unit] && ranks[unit] == 0 {
             ranks[unit] = need.rank;
-            ask_inputs(network, unit, need.rank + 1, asked, waiting);
+            ask_each(
+                network.inputs.list(unit),
+                need.rank + 1,
+                asked,
+                waiting,
+            );
         }
-        link = network.outputs.links[entry];
+        next = network.outputs.place_before(place);
     }
 }
 
@@ -98,7 +102,6 @@ fn spread(
     asked: &mut [bool; NUMBERS],
     waiting: &mut WaitingList<Need>,
 )
-    requires sound { Sound network.now }
     requires spreading { Spreading (taken_down network.now) (flagged live.now) asked.old ranks.old (waits waiting.old) 1 }
     requires room { (capacity waiting.old ≡ 1025) × (length (waits waiting.old) ≤ asked_for asked.old) }
     ensures { Composed (taken_down network.now) (flagged live.now) ranks.new }
@@ -110,11 +113,10 @@ fn spread(
 
 // The rank of each live unit from which a path through live units leads to a wanted material; 0 for every other number.
 pub(crate) fn compose(network: &Network, live: &[bool; NUMBERS]) -> [u16; NUMBERS]
-    requires sound { Sound network.now }
     ensures { Composed (taken_down network.now) (flagged live.now) result }
 {
     let mut ranks = [0; NUMBERS];
-    let mut asked = [false; NUMBERS];
+    let mut asked = no_flags();
     let mut places = [Need {
         material: 0,
         rank: 0,

@@ -2,6 +2,8 @@
 #![tactic(auto)]
 
 mod composition;
+mod flags;
+mod lists;
 mod maximal;
 mod network;
 mod picture;

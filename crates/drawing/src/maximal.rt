@@ -3,12 +3,14 @@ ghost use Rattle.std.specs.Prelude.{◌≡◌, ℕ, ◌<◌, ◌≤◌, true, De
 ghost use Rattle.book.specs.declared.Refusal.{Refusal as Declined};
 ghost use Rattle.structure.specs.Problem.{Member, problem};
 ghost use Rattle.structure.specs.Answers.{Drawing, Draws, ImpossibleExactly, DrawnHoldsEvery, DrawnExactlyInSome};
-ghost use Rattle.drawing.specs.Network.{flagged, taken_down, Sound};
+ghost use Rattle.drawing.specs.Flags.{flagged};
+ghost use Rattle.drawing.specs.Network.{taken_down};
 ghost use Rattle.drawing.specs.Picture.{answer_of};
 ghost use Rattle.drawing.specs.Ready.{Readied, MeetBelow};
 
 use crate::composition::compose;
-use crate::network::{NUMBERS, Network};
+use crate::flags::NUMBERS;
+use crate::network::Network;
 use crate::picture::pictured;
 use crate::reduction::reduce;
 use crate::takedown::take_down;
@@ -28,7 +30,6 @@ fn meet(some: &[bool; NUMBERS], others: &[bool; NUMBERS], last: u16) -> bool
 
 // Refuses what cannot be drawn at all: nothing wanted, nothing bought, or some material both.
 fn ready(network: &Network) -> Result<(), Refusal>
-    requires { Sound network.now }
     ensures { Readied (taken_down network.now) result }
 {
     if !meet(&network.wanted, &network.wanted, network.materials) {
@@ -45,7 +46,6 @@ fn ready(network: &Network) -> Result<(), Refusal>
 
 // Whether each wanted material has a maker.
 fn all_made(network: &Network, makers: &[u16; NUMBERS]) -> bool
-    requires { Sound network.now }
     ensures { Decides result ((x : ℕ) → Member (flagged network.now.wanted) x → 0 < slice_index makers.now x) }
 {
     network.wanted[..network.materials as usize + 1]
@@ -56,7 +56,6 @@ fn all_made(network: &Network, makers: &[u16; NUMBERS]) -> bool
 
 // Draws what was taken down.
 fn draw_network(network: &Network, sheet: Sheet) -> Result<Sheet, Refusal>
-    requires { Sound network.now }
     ensures { Draws (taken_down network.now) (answer_of result) }
 {
     ready(network)?;

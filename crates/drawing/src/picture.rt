@@ -5,10 +5,13 @@ ghost use Rattle.structure.specs.Problem.{Member, Within};
 ghost use Rattle.structure.specs.Supported.{Spanned};
 ghost use Rattle.structure.specs.Answers.{mark_for};
 ghost use Rattle.sheet.specs.Sheets.{contents};
-ghost use Rattle.drawing.specs.Network.{flagged, list_at, taken_down, SoundSide, Sound};
+ghost use Rattle.drawing.specs.Flags.{flagged};
+ghost use Rattle.drawing.specs.Lists.{Placed};
+ghost use Rattle.drawing.specs.Network.{taken_down};
 ghost use Rattle.drawing.specs.Picture.{MarksFor, ranked as ranked_in, UpTo, Pictured};
 
-use crate::network::{LIST, NUMBERS, Network, Side, no_flags};
+use crate::flags::{NUMBERS, no_flags};
+use crate::network::Network;
 use sheet::{PLACES, Sheet};
 use structure::Mark;
 
@@ -58,27 +61,26 @@ fn up_to(last: u16) -> [bool; NUMBERS]
     flags
 }
 
-// Sets the flag of each material in a unit's list.
-fn flag_list(side: &Side, unit: u16, flags: &mut [bool; NUMBERS])
-    requires { (SoundSide side.now) × (unit ≤ 1024) }
-    ensures { (x : ℕ) → Decides (flagged flags.new x) (Member (flagged flags.old) x ⊎ (names x (list_at side.now unit) ≡ true)) }
+// Sets the flag of each material in a list.
+fn flag_list(list: &[u16], flags: &mut [bool; NUMBERS])
+    requires { Placed list.now }
+    ensures { (x : ℕ) → Decides (flagged flags.new x) (Member (flagged flags.old) x ⊎ (names x list.now ≡ true)) }
 {
-    let first = LIST * unit as usize;
-    for place in 0..side.counts[unit as usize] as usize {
-        flags[side.entries[first + place] as usize] = true;
+    for x in list {
+        flags[*x as usize] = true;
     }
 }
 
 // The flags of the materials that the units take and make.
 fn touched(network: &Network, units: &[bool; NUMBERS]) -> [bool; NUMBERS]
-    requires { (Sound network.now) × (Within (flagged units.now) (flagged network.now.standing)) }
+    requires { Within (flagged units.now) (flagged network.now.standing) }
     ensures { Spanned (taken_down network.now) (flagged units.now) (flagged result) }
 {
     let mut flags = no_flags();
-    for unit in 1..=network.units {
-        if units[unit as usize] {
-            flag_list(&network.inputs, unit, &mut flags);
-            flag_list(&network.outputs, unit, &mut flags);
+    for unit in 1..=network.units as usize {
+        if units[unit] {
+            flag_list(network.inputs.list(unit), &mut flags);
+            flag_list(network.outputs.list(unit), &mut flags);
         }
     }
     flags
@@ -95,8 +97,7 @@ fn from_first(ranks: &[u16; NUMBERS]) -> [u16; PLACES]
 
 // The sheet that shows the units that have a rank.
 pub(crate) fn pictured(network: &Network, ranks: &[u16; NUMBERS], sheet: Sheet) -> Sheet
-    requires sound { Sound network.now }
-    requires standing { Within (ranked_in ranks.now) (flagged network.now.standing) }
+    requires { Within (ranked_in ranks.now) (flagged network.now.standing) }
     ensures { Pictured (taken_down network.now) ranks.now (contents result) }
 {
     let drawn = ranked(ranks);

@@ -3,10 +3,14 @@ ghost use Rattle.std.specs.Prelude.{◌≡◌, ℕ, ◌+◌, ◌<◌, ◌≤◌,
 ghost use Rattle.structure.specs.Problem.{Member, MadeIn};
 ghost use Rattle.structure.specs.Supported.{Largest};
 ghost use Rattle.queue.specs.Waiting.{waits, capacity};
-ghost use Rattle.drawing.specs.Network.{flagged, list_at, taken_down, SoundSide, Sound};
-ghost use Rattle.drawing.specs.Reduction.{Among, Placed, times, zeros, Enlisted, Seeded, Reducing, Released};
+ghost use Rattle.drawing.specs.Flags.{flagged};
+ghost use Rattle.drawing.specs.Lists.{Placed};
+ghost use Rattle.drawing.specs.Network.{taken_down};
+ghost use Rattle.drawing.specs.Reduction.{Among, times, zeros, Enlisted, Seeded, Reducing, Released};
 
-use crate::network::{LIST, NUMBERS, Network, Side};
+use crate::flags::NUMBERS;
+use crate::lists::SideLists;
+use crate::network::Network;
 use queue::WaitingList;
 
 // The units that can go on working, and how many entries of their outputs make each material.
@@ -14,17 +18,6 @@ use queue::WaitingList;
 pub(crate) struct Reduced {
     pub(crate) live: [bool; NUMBERS],
     pub(crate) makers: [u16; NUMBERS],
-}
-
-// The list of a unit.
-fn list(side: &Side, unit: usize) -> &[u16]
-    requires { (SoundSide side.now) × (unit < 1025) }
-    ensures same { result.now ≡ list_at side.now unit }
-    ensures placed { Placed result.now }
-    ensures few { length result.now ≤ 8 }
-{
-    let first = LIST * unit;
-    &side.entries[first..first + side.counts[unit] as usize]
 }
 
 // Is one of these bought?
@@ -54,12 +47,11 @@ fn count_entries(entries: &[u16], makers: &mut [u16])
 
 // Makes a unit live if it stands and makes nothing bought.
 fn enlist_unit(network: &Network, unit: usize, reduced: &mut Reduced)
-    requires sound { Sound network.now }
     requires known { unit < 1025 }
     requires before { Enlisted (taken_down network.now) reduced.old.live reduced.old.makers unit }
     ensures { Enlisted (taken_down network.now) reduced.new.live reduced.new.makers (unit + 1) }
 {
-    let outputs = list(&network.outputs, unit);
+    let outputs = network.outputs.list(unit);
     if network.standing[unit] && !any_bought(outputs, &network.bought) {
         reduced.live[unit] = true;
         count_entries(outputs, &mut reduced.makers);
@@ -68,7 +60,6 @@ fn enlist_unit(network: &Network, unit: usize, reduced: &mut Reduced)
 
 // All standing units that make nothing bought.
 fn enlist(network: &Network) -> Reduced
-    requires { Sound network.now }
     ensures { Enlisted (taken_down network.now) result.live result.makers (network.now.units + 1) }
 {
     let mut reduced = Reduced {
@@ -83,7 +74,6 @@ fn enlist(network: &Network) -> Reduced
 
 // Lets a material wait if it is neither bought nor made.
 fn seed_material(network: &Network, material: u16, makers: &[u16], waiting: &mut WaitingList<u16>)
-    requires sound { Sound network.now }
     requires known { (1 ≤ material) × (material ≤ network.now.materials) }
     requires places { (length makers.now ≡ 1025) × (capacity waiting.old ≡ 1025) }
     requires before { Seeded (taken_down network.now) makers.now (waits waiting.old) material }
@@ -97,7 +87,6 @@ fn seed_material(network: &Network, material: u16, makers: &[u16], waiting: &mut
 
 // Lets each material wait that is neither bought nor made.
 fn seed(network: &Network, makers: &[u16], waiting: &mut WaitingList<u16>)
-    requires sound { Sound network.now }
     requires places { (length makers.now ≡ 1025) × (capacity waiting.old ≡ 1025) }
     requires empty { waits waiting.old ≡ [] }
     ensures seeded { Seeded (taken_down network.now) makers.now (waits waiting.new) (network.now.materials + 1) }
@@ -126,28 +115,25 @@ fn release(entries: &[u16], makers: &mut [u16], waiting: &mut WaitingList<u16>)
 
 // Removes each live unit that takes a material which nobody makes.
 fn sweep(network: &Network, material: u16, reduced: &mut Reduced, waiting: &mut WaitingList<u16>)
-    requires sound { Sound network.now }
     requires places { capacity waiting.old ≡ 1025 }
     requires before { Reducing (taken_down network.now) reduced.old.live reduced.old.makers (material ∷ waits waiting.old) }
     ensures after { Reducing (taken_down network.now) reduced.new.live reduced.new.makers (waits waiting.new) }
     ensures grown { length (waits waiting.new) + zeros reduced.old.makers ≤ length (waits waiting.old) + zeros reduced.new.makers }
     ensures places { capacity waiting.new ≡ 1025 }
 {
-    let mut next = network.inputs.heads[material as usize];
-    while next != 0 {
-        let entry = next as usize - 1;
-        let unit = entry / LIST;
+    let mut next = network.inputs.last_place(material);
+    while let Some(place) = next {
+        let unit = SideLists::owner(place);
         if reduced.live[unit] {
             reduced.live[unit] = false;
-            release(list(&network.outputs, unit), &mut reduced.makers, waiting);
+            release(network.outputs.list(unit), &mut reduced.makers, waiting);
         }
-        next = network.inputs.links[entry];
+        next = network.inputs.place_before(place);
     }
 }
 
 // Takes up what waits until nothing does.
 fn drain(network: &Network, reduced: &mut Reduced, waiting: &mut WaitingList<u16>)
-    requires sound { Sound network.now }
     requires places { capacity waiting.old ≡ 1025 }
     requires before { Reducing (taken_down network.now) reduced.old.live reduced.old.makers (waits waiting.old) }
     ensures { Reducing (taken_down network.now) reduced.new.live reduced.new.makers [] }
@@ -159,7 +145,6 @@ fn drain(network: &Network, reduced: &mut Reduced, waiting: &mut WaitingList<u16
 
 // Leaves the largest supported set of units.
 pub(crate) fn reduce(network: &Network) -> Reduced
-    requires { Sound network.now }
     ensures long { (length result.live ≡ 1025) × (length result.makers ≡ 1025) }
     ensures largest { Largest (taken_down network.now) (flagged result.live) }
     ensures counted { (x : ℕ) → Decides (nat_lt 0 (slice_index result.makers x)) (MadeIn (taken_down network.now) (flagged result.live) x) }

@@ -2,10 +2,15 @@
 ghost use Rattle.std.specs.Prelude.{◌≡◌, ℕ, ◌-◌, ◌<◌, ◌≤◌, false, [], length, slice_index};
 ghost use Rattle.book.specs.Meaning.{material_count, unit_count};
 ghost use Rattle.structure.specs.Problem.{problem};
-ghost use Rattle.drawing.specs.Network.{Flags, list_at, taken_down, SoundSide, Sound};
-ghost use Rattle.drawing.specs.TakingDown.{list_told, Holds, with_entry, with_list};
+ghost use Rattle.drawing.specs.Flags.{Flags};
+ghost use Rattle.drawing.specs.Lists.{with_list};
+ghost use Rattle.drawing.specs.Sides.{Holds, list_at};
+ghost use Rattle.drawing.specs.Network.{taken_down};
+ghost use Rattle.drawing.specs.TakingDown.{list_told};
 
-use crate::network::{ENTRIES, LIST, NUMBERS, Network, Side, no_flags};
+use crate::flags::{NUMBERS, no_flags};
+use crate::lists::SideLists;
+use crate::network::Network;
 use book::Book;
 
 // Which of a unit's two lists is meant: what it takes, or what it makes.
@@ -17,7 +22,6 @@ enum Direction {
 
 // Takes down all that a draw needs of a book; each question is asked once.
 pub(crate) fn take_down<B: Book>(book: &mut B) -> Network
-    ensures sound { Sound result }
     ensures seen { taken_down result ≡ problem (B.Book.meaning book.old) }
     ensures same { book.new ≡ book.old }
 {
@@ -27,8 +31,8 @@ pub(crate) fn take_down<B: Book>(book: &mut B) -> Network
     let mut bought = no_flags();
     read_materials(book, materials, &mut wanted, &mut bought);
     let mut standing = no_flags();
-    let mut inputs = empty_side();
-    let mut outputs = empty_side();
+    let mut inputs = SideLists::empty();
+    let mut outputs = SideLists::empty();
     read_units(book, units, &mut standing, &mut inputs, &mut outputs);
     Network {
         materials,
@@ -55,8 +59,7 @@ fn read_materials<B: Book>(
     ensures bought { Flags bought.new (problem (B.Book.meaning book.old)).bought }
     ensures same { book.new ≡ book.old }
 {
-    for done in 0..materials {
-        let material = done + 1;
+    for material in 1..=materials {
         let place = material as usize;
         wanted[place] = book.wanted(material).unwrap_or(false);
         bought[place] = book.bought(material).unwrap_or(false);
@@ -68,8 +71,8 @@ fn read_units<B: Book>(
     book: &mut B,
     units: u16,
     standing: &mut [bool; NUMBERS],
-    inputs: &mut Side,
-    outputs: &mut Side,
+    inputs: &mut SideLists,
+    outputs: &mut SideLists,
 )
     requires counted { units ≡ unit_count (B.Book.meaning book.old) }
     requires none_standing { Flags standing.old (λ _. false) }
@@ -80,8 +83,7 @@ fn read_units<B: Book>(
     ensures outputs { Holds outputs.new (problem (B.Book.meaning book.old)).outputs }
     ensures same { book.new ≡ book.old }
 {
-    for done in 0..units {
-        let unit = done + 1;
+    for unit in 1..=units {
         let stands = book.stands(unit).unwrap_or(false);
         standing[unit as usize] = stands;
         if stands {
@@ -92,17 +94,15 @@ fn read_units<B: Book>(
 }
 
 // Reads one list of a unit. That unit and those after it have no entry yet.
-fn read_list<B: Book>(book: &mut B, direction: Direction, unit: u16, side: &mut Side)
+fn read_list<B: Book>(book: &mut B, direction: Direction, unit: u16, side: &mut SideLists)
     requires known { unit ≤ 1024 }
-    requires sound { SoundSide side.old }
     requires last { (v : ℕ) → unit ≤ v → list_at side.old v ≡ [] }
     ensures held { Holds side.new (with_list (list_at side.old) unit (list_told direction unit (B.Book.meaning book.old))) }
     ensures same { book.new ≡ book.old }
 {
     let count = entry_count(book, direction, unit);
-    for done in 0..count {
-        let material = entry(book, direction, unit, done + 1);
-        push(side, unit, material);
+    for place in 1..=count {
+        side.push(unit, entry(book, direction, unit, place));
     }
 }
 
@@ -129,33 +129,4 @@ fn entry<B: Book>(book: &mut B, direction: Direction, unit: u16, place: u16) -> 
         Direction::Made => book.output(unit, place),
     };
     told.unwrap_or(0)
-}
-
-// A side with no entry.
-fn empty_side() -> Side
-    ensures { Holds result (λ _. []) }
-{
-    Side {
-        counts: [0; NUMBERS],
-        entries: [0; ENTRIES],
-        links: [0; ENTRIES],
-        heads: [0; NUMBERS],
-    }
-}
-
-// Puts one more entry at the end of a unit's list. The units after it have no entry yet.
-fn push(side: &mut Side, unit: u16, material: u16)
-    requires known { (unit ≤ 1024) × ((1 ≤ material) × (material ≤ 1024)) }
-    requires sound { SoundSide side.old }
-    requires room { length (list_at side.old unit) < 8 }
-    requires last { (v : ℕ) → unit < v → list_at side.old v ≡ [] }
-    ensures { Holds side.new (with_entry (list_at side.old) unit material) }
-{
-    let own = unit as usize;
-    let kind = material as usize;
-    let place = LIST * own + side.counts[own] as usize;
-    side.entries[place] = material;
-    side.links[place] = side.heads[kind];
-    side.heads[kind] = (place + 1) as u16;
-    side.counts[own] += 1;
 }

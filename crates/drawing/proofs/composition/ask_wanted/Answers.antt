@@ -2,7 +2,7 @@ use Rattle.std.proofs.Common.{◌≡◌, ℕ, ◌+◌, ◌<◌, Bool, false, ◌
 use Rattle.std.proofs.lemmas.Bool.{both_ways, cases_eq}
 use Rattle.queue.specs.Waiting.{waits, capacity}
 use Rattle.structure.specs.Problem.{Member}
-use Rattle.drawing.specs.Network.{flagged}
+use Rattle.drawing.specs.Flags.{flagged}
 use Rattle.drawing.specs.Composition.{Asked}
 use Rattle.drawing.proofs.Asking.{added_equally, asked_same, asked_then}
 use Rattle.drawing.proofs.composition.ask_wanted.Goals as goal
@@ -49,6 +49,6 @@ returns-after-network-x c =
     let (asked, room) = turn (goal.at.returns-after-network-x c).Joined-network-x in
     let wanted = c.args.network.now.wanted in
     record {
-      asked = asked_same asked (Member (flagged wanted)) (λ y h. h.1) (λ y w. (omega (arith, (c.requires.sound.bounded.wanted_known y w).1), w));
+      asked = asked_same asked (Member (flagged wanted)) (λ y h. h.1) (λ y w. (omega (arith, (c.args.network.now.bounded.wanted_known y w).1), w));
       room = room;
     }

@@ -1,7 +1,7 @@
 use Rattle.std.proofs.Common.{◌≡◌, ◌<◌}
 use Rattle.queue.specs.Waiting.{waits, capacity}
 use Rattle.structure.specs.Problem.{Member}
-use Rattle.drawing.specs.Network.{flagged}
+use Rattle.drawing.specs.Flags.{flagged}
 use Rattle.drawing.specs.Composition.{Asked}
 use Rattle.drawing.proofs.composition.ask_wanted.Given as goal
 

@@ -1,38 +1,48 @@
-use Rattle.std.proofs.Common.{◌-◌, ◌/◌, ◌<◌, ◌≤◌, Bool, length, refl, ap, ◌∙◌, arith}
+use Rattle.std.proofs.Common.{◌≡◌, ℕ, ◌<◌, Bool, true, length, get_or, Option, refl, sym, ap, ◌∙◌, subst, arith}
 use Rattle.std.proofs.lemmas.List.Sums.{count_by-le-length}
 use Rattle.std.proofs.lemmas.Bool.{both_ways}
-use Rattle.structure.specs.Problem.{Member}
-use Rattle.queue.specs.Waiting.{capacity}
-use Rattle.drawing.specs.Network.{flagged}
+use Rattle.book.specs.Layers.{names}
+use Rattle.structure.specs.Problem.{Member, Takes}
+use Rattle.queue.specs.Waiting.{waits, capacity}
+use Rattle.drawing.specs.Flags.{flagged}
+use Rattle.drawing.specs.Lists.{after}
+use Rattle.drawing.specs.Network.{taken_down}
 use Rattle.drawing.specs.Composition.{Ranked}
-use Rattle.drawing.proofs.Makers.{needed_known, walk_starts, walk_less, walk_passes, walk_ranks, walk_ends}
+use Rattle.drawing.proofs.Asking.{asked_same}
+use Rattle.drawing.proofs.Walks.{At, place_some}
+use Rattle.drawing.proofs.Makers.{Walking, needed_some, needed_known, walk_starts, walk_passes, walk_ranks, walk_ends}
 use Rattle.drawing.proofs.composition.rank_makers.Goals as goal
 use Rattle.drawing.proofs.composition.rank_makers.Goals.{then-live-unit+then-ranks-unit-eq0, else-live-unit, else-live-unit-via-then-live-unit+else-ranks-unit-eq0, else-live-unit-via-else-live-unit}
 
-pub bounds-network-need : goal.bounds-network-need
-bounds-network-need c = omega (arith, (needed_known c.requires.sound c.args.live.now c.requires.spreading).1)
+pub loop-next-init : goal.loop-next-init
+loop-next-init c = (walk_starts c.args.network.now c.args.live.now c.requires.spreading c.last_place-next.ensures, refl)
 
-pub loop-link-init : goal.loop-link-init
-loop-link-init c = (walk_starts c.requires.sound c.args.live.now c.requires.spreading, refl)
+pub place_before-next-requires-clause-some : goal.place_before-next-requires-clause-some
+place_before-next-requires-clause-some c =
+    let n = c.args.network.now in
+    let x = c.args.need.material in
+    let w = c.loop-next.invariant.0 in
+    place_some n.outputs x (needed_some n c.args.live.now w.spreading) c.in-Some.place c.owner-unit.result c.owner-unit.ensures (subst (λ (o : Option ℕ). At n.outputs x (after o)) c.in-Some.is w.at)
 
-pub overflow_add-need : goal.overflow_add-need
-overflow_add-need c = omega (arith, count_by-le-length (λ (b : Bool). b) c.args.asked.now)
+pub loop-next-smaller : goal.loop-next-smaller
+loop-next-smaller c = omega (arith, c.place_before-next.ensures.below, ap after c.in-Some.is)
 
-pub loop-link-smaller : goal.loop-link-smaller
-loop-link-smaller c = walk_less c.requires.sound c.args.live.now c.loop-link.invariant.0 (omega arith)
-
-pub loop-link-preserved : goal.loop-link-preserved
-loop-link-preserved c =
+pub loop-next-preserved : goal.loop-next-preserved
+loop-next-preserved c =
+    let n = c.args.network.now in
     let live = c.args.live.now in
-    let ranks = c.loop-link.ranks in
-    let u = (c.loop-link.link - 1) / 8 in
-    let walk = c.loop-link.invariant.0 in
-    let more : 1 ≤ c.loop-link.link = omega arith in
+    let ranks = c.loop-next.ranks in
+    let e = c.in-Some.place in
+    let u = c.owner-unit.result in
+    let own = c.owner-unit.ensures in
+    let back = c.place_before-next.ensures in
+    let walk = subst (λ (o : Option ℕ). Walking n live c.args.need c.args.asked.now (waits c.args.waiting.now) c.loop-next.asked ranks (waits c.loop-next.waiting) (after o)) c.in-Some.is c.loop-next.invariant.0 in
     elim c.if-live-unit.branch [
       | then-live-unit+then-ranks-unit-eq0 w ↦
-          let inside : u < length ranks = omega arith in (
-            simp (w.asked-is, w.ranks-is, w.waiting-is) (walk_ranks c.requires.sound live walk more w.if-live-unit.true w.if-ranks-unit-eq0.true inside w.ask_inputs.ensures.asked),
-            ap capacity w.waiting-is ∙ (w.ask_inputs.ensures.room ∙ c.loop-link.invariant.1),
+          let inside : u < length ranks = omega arith in
+          let asked = asked_same w.ask_each.ensures.asked (Takes (taken_down n) u) (λ x h. sym (ap (names x) w.list.ensures.same) ∙ h) (λ x h. ap (names x) w.list.ensures.same ∙ h) in (
+            simp (w.asked-is, w.ranks-is, w.waiting-is) (walk_ranks n live e u own walk back w.if-live-unit.true w.if-ranks-unit-eq0.true inside asked),
+            ap capacity w.waiting-is ∙ (w.ask_each.ensures.room ∙ c.loop-next.invariant.1),
           )
       | else-live-unit w ↦
           let done : Member (flagged live) u → Ranked ranks u =
@@ -40,16 +50,17 @@ loop-link-preserved c =
             | else-live-unit-via-then-live-unit+else-ranks-unit-eq0 w' ↦ w'.if-ranks-unit-eq0.false
             | else-live-unit-via-else-live-unit w' ↦ absurd (both_ways (flagged live u) w'.if-live-unit.false i)
           ] in (
-            simp (w.asked-is, w.ranks-is, w.waiting-is) (walk_passes c.requires.sound live walk more done),
-            ap capacity w.waiting-is ∙ c.loop-link.invariant.1,
+            simp (w.asked-is, w.ranks-is, w.waiting-is) (walk_passes n live e u own walk back done),
+            ap capacity w.waiting-is ∙ c.loop-next.invariant.1,
           )
     ]
 
 pub returns : goal.returns
 returns c =
-    let walk = c.loop-link.invariant.0 in
+    let n = c.args.network.now in
+    let walk = c.loop-next.invariant.0 in
     record {
-      spreading = walk_ends c.requires.sound c.args.live.now walk (omega arith);
+      spreading = walk_ends n c.args.live.now (subst (λ (o : Option ℕ). Walking n c.args.live.now c.args.need c.args.asked.now (waits c.args.waiting.now) c.loop-next.asked c.loop-next.ranks (waits c.loop-next.waiting) (after o)) c.in_default.is walk);
       equally = walk.equally;
-      room = c.loop-link.invariant.1;
+      room = c.loop-next.invariant.1;
     }

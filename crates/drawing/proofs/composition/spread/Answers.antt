@@ -1,7 +1,8 @@
 use Rattle.std.proofs.Common.{Bool, List, length, ap, ◌∙◌, subst, arith}
 use Rattle.std.proofs.lemmas.List.Sums.{count_by-le-length}
 use Rattle.drawing.specs.declared.composition.Need.{Need}
-use Rattle.drawing.specs.Network.{flagged, taken_down}
+use Rattle.drawing.specs.Flags.{flagged}
+use Rattle.drawing.specs.Network.{taken_down}
 use Rattle.drawing.specs.Composition.{Spreading}
 use Rattle.drawing.proofs.Spreading.{at_first, ended}
 use Rattle.drawing.proofs.composition.spread.Goals as goal
@@ -14,7 +15,6 @@ rank_makers-requires c =
     let oldest = c.in-Some.ensures.told.oldest in
     let (rank, spreading) = at_first (subst (λ (l : List Need). Spreading p g c.loop-need.asked c.loop-need.ranks l r) oldest s) in
     record {
-      sound = c.requires.sound;
       spreading = spreading;
       room = (c.in-Some.ensures.room.kept ∙ c.loop-need.invariant.1, omega (arith, ap length oldest));
     }

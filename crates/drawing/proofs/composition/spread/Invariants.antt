@@ -1,6 +1,7 @@
 use Rattle.std.proofs.Common.{◌≡◌, ℕ, ◌+◌, ◌-◌, ◌≤◌, length}
 use Rattle.queue.specs.Waiting.{waits, capacity}
-use Rattle.drawing.specs.Network.{flagged, taken_down}
+use Rattle.drawing.specs.Flags.{flagged}
+use Rattle.drawing.specs.Network.{taken_down}
 use Rattle.drawing.specs.Composition.{Spreading, asked_for}
 use Rattle.drawing.proofs.composition.spread.Given as goal
 

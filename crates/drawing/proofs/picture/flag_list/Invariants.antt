@@ -1,9 +1,10 @@
-use Rattle.std.proofs.Common.{◌≡◌, ℕ, ◌+◌, ◌*◌, ◌<◌, ◌⊎◌, length, get_or, Decides}
+use Rattle.std.proofs.Common.{◌≡◌, ℕ, true, ◌⊎◌, length, take, Decides}
+use Rattle.book.specs.Layers.{names}
 use Rattle.structure.specs.Problem.{Member}
-use Rattle.drawing.specs.Network.{flagged}
+use Rattle.drawing.specs.Flags.{flagged}
 use Rattle.drawing.proofs.picture.flag_list.Given as goal
 
-abbrev pub invariant-loop-place : goal.invariant-loop-place
-invariant-loop-place l =
+abbrev pub invariant-loop-x : goal.invariant-loop-x
+invariant-loop-x l =
     (length l.flags ≡ 1025)
-    × ((x : ℕ) → Decides (flagged l.flags x) (Member (flagged l.initial.flags) x ⊎ ((j : ℕ) × (j < l.place) × (get_or l.side.entries (8 * l.unit + j) 0 ≡ x))))
+    × ((x : ℕ) → Decides (flagged l.flags x) (Member (flagged l.initial.flags) x ⊎ (names x (take l.x-index l.list) ≡ true)))

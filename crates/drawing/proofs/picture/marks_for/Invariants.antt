@@ -1,7 +1,7 @@
 use Rattle.std.proofs.Common.{◌≡◌, ℕ, ◌+◌, ◌<◌, length, get_or}
 use Rattle.structure.specs.declared.Mark.TheVariants.{Unasked}
 use Rattle.structure.specs.Answers.{mark_for}
-use Rattle.drawing.specs.Network.{flagged}
+use Rattle.drawing.specs.Flags.{flagged}
 use Rattle.drawing.proofs.picture.marks_for.Given as goal
 
 abbrev pub invariant-loop-place : goal.invariant-loop-place

@@ -1,5 +1,6 @@
 use Rattle.std.proofs.Common.{◌≡◌, ℕ, length, Decides}
-use Rattle.drawing.specs.Network.{flagged, taken_down}
+use Rattle.drawing.specs.Flags.{flagged}
+use Rattle.drawing.specs.Network.{taken_down}
 use Rattle.drawing.proofs.Touching.{TouchedBelow}
 use Rattle.drawing.proofs.picture.touched.Given as goal
 

@@ -2,7 +2,7 @@ use Rattle.std.proofs.Common.{◌≡◌, ℕ, ◌+◌, ◌-◌, ◌<◌, ◌≤�
 use Rattle.std.proofs.lemmas.List.{get_or-append_right, get_or_append_left, get_or-replicate, get_or-take, get_or-drop, length-take, length-drop, length-replicate}
 use Rattle.std.proofs.lemmas.Bool.{cases_lt, both_ways}
 use borrow.Rule.Slice.PartMut.{put_mid}
-use Rattle.drawing.specs.Network.{Flags, flagged}
+use Rattle.drawing.specs.Flags.{Flags, flagged}
 use Rattle.drawing.specs.Picture.{UpTo}
 use Rattle.drawing.proofs.picture.up_to.Goals as goal
 

@@ -1,6 +1,6 @@
 use Rattle.std.proofs.Common.{◌≡◌, false, get_or, sym, refl, ap, ◌∙◌, arith, below_more}
 use Rattle.std.proofs.lemmas.Bool.{false≢true, both_ways}
-use Rattle.drawing.specs.Network.{flagged}
+use Rattle.drawing.specs.Flags.{flagged}
 use Rattle.drawing.proofs.Members.{names_place, place_names}
 use Rattle.drawing.proofs.reduction.any_bought.Goals as goal
 

@@ -11,7 +11,7 @@ loop-unit-init c =
     let makers : List ℕ = replicate 1025 0 in
     let long = length-replicate 1025 false in
     let makers_long = length-replicate {A = ℕ} 1025 0 in
-    (enlisted_none (taken_down c.args.network.now) c.requires.bounded live makers long makers_long (no_flags 1025) (no_counts 1025), omega arith)
+    (enlisted_none (taken_down c.args.network.now) c.args.network.now.bounded live makers long makers_long (no_flags 1025) (no_counts 1025), omega arith)
 
 pub returns : goal.returns
 returns c =

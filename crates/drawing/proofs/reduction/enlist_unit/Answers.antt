@@ -1,6 +1,7 @@
 use Rattle.std.proofs.Common.{ℕ, ◌+◌, List, get_or, sym, ap, ◌∙◌, subst, arith}
 use Rattle.std.proofs.lemmas.Bool.{both_ways}
-use Rattle.drawing.specs.Network.{flagged, taken_down}
+use Rattle.drawing.specs.Flags.{flagged}
+use Rattle.drawing.specs.Network.{taken_down}
 use Rattle.drawing.specs.Reduction.{Among, times, Eligible}
 use Rattle.drawing.proofs.Entries.{list_few}
 use Rattle.drawing.proofs.Arcs.{arcs_few}
@@ -15,7 +16,7 @@ count_entries-requires c =
     record {
       places = (c.list-outputs.ensures.placed, t.makers_long);
       few = c.list-outputs.ensures.few;
-      low = λ x. omega (arith, t.counted x, arcs_few (taken_down n) x (flagged c.args.reduced.now.live) c.args.unit (list_few n.outputs c.requires.sound.outputs));
+      low = λ x. omega (arith, t.counted x, arcs_few (taken_down n) x (flagged c.args.reduced.now.live) c.args.unit (list_few n.outputs));
     }
 
 pub returns-then-not-any_bought : goal.returns-then-not-any_bought

@@ -6,9 +6,8 @@ pub drain-requires : goal.drain-requires
 drain-requires c =
     let n = c.args.network.now in
     record {
-      sound = c.requires;
       places = c.seed.ensures.places;
-      before = reducing_starts (taken_down n) c.requires.bounded c.enlist-reduced.ensures c.seed.ensures.seeded;
+      before = reducing_starts (taken_down n) c.args.network.now.bounded c.enlist-reduced.ensures c.seed.ensures.seeded;
     }
 
 pub returns : goal.returns
@@ -17,6 +16,6 @@ returns c =
     let t = c.drain.ensures in
     record {
       long = (t.live_long, t.makers_long);
-      largest = reduced_largest (taken_down n) c.requires.bounded t;
-      counted = reduced_counted (taken_down n) c.requires.bounded t;
+      largest = reduced_largest (taken_down n) c.args.network.now.bounded t;
+      counted = reduced_counted (taken_down n) c.args.network.now.bounded t;
     }

@@ -1,15 +1,15 @@
 -- The units so far are read.
 use Rattle.std.proofs.Common.{◌≡◌, ◌+◌, false, []}
 use Rattle.structure.specs.Problem.{problem}
-use Rattle.drawing.specs.Network.{Flags}
-use Rattle.drawing.specs.TakingDown.{Holds}
+use Rattle.drawing.specs.Flags.{Flags}
+use Rattle.drawing.specs.Sides.{Holds}
 use Rattle.drawing.proofs.TakingDown.{below}
 use Rattle.drawing.proofs.takedown.read_units.Given as goal
 
-abbrev pub invariant-loop-done : goal.invariant-loop-done
-invariant-loop-done g l =
+abbrev pub invariant-loop-unit : goal.invariant-loop-unit
+invariant-loop-unit g l =
     let p = problem (g.B.Book.meaning l.initial.book) in
     (l.book ≡ l.initial.book)
-    × Flags l.standing (below (l.done + 1) false p.standing)
-    × Holds l.inputs (below (l.done + 1) [] p.inputs)
-    × Holds l.outputs (below (l.done + 1) [] p.outputs)
+    × Flags l.standing (below l.unit false p.standing)
+    × Holds l.inputs (below l.unit [] p.inputs)
+    × Holds l.outputs (below l.unit [] p.outputs)

@@ -3,7 +3,7 @@ use Rattle.std.proofs.Common.{◌≡◌, ℕ, ◌<◌, ◌≤◌, Bool, true, fa
 use Rattle.std.proofs.lemmas.List.{get_or-set_same, get_or-set_other, get_or-replicate, get_or_past, length-replicate}
 use Rattle.std.proofs.lemmas.Bool.{cases_eq, cases_lt, false≢true}
 use Rattle.structure.specs.Problem.{Member}
-use Rattle.drawing.specs.Network.{flagged}
+use Rattle.drawing.specs.Flags.{flagged}
 
 -- one flag more is set
 pub flag_more : (flags : List Bool) (i x : ℕ) → i < length flags → Decides (flagged (set flags i true) x) (Member (flagged flags) x ⊎ (i ≡ x))

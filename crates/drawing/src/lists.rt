@@ -1,0 +1,95 @@
+// The lists of one side of all units, of what they take or of what they make, walked by unit and by material.
+ghost use Rattle.std.specs.Prelude.{◌≡◌, ℕ, ◌/◌, ◌<◌, ◌≤◌, [], length, slice_index};
+ghost use Rattle.drawing.specs.Lists.{Walkable, Placed, LastBelow, after, with_entry};
+
+use crate::flags::NUMBERS;
+
+// The most entries that a list has, and the places for all lists of one side.
+const LIST: usize = 8;
+
+const ENTRIES: usize = LIST * NUMBERS;
+
+// The lists of one side. A draw never allocates, so they stand in fixed arrays, and entries that are one material are
+// linked by their places.
+#[derive(Drop)]
+pub(crate) struct SideLists {
+    // How many entries each unit has.
+    counts: [u16; NUMBERS],
+    // The entries of unit u, from place 8 u on; 0 where there is none.
+    entries: [u16; ENTRIES],
+    // For each entry, the place of the last entry before it that is the same material.
+    links: [Option<u16>; ENTRIES],
+    // For each material, the place of its last entry.
+    heads: [Option<u16>; NUMBERS],
+    ghost walkable: { Walkable counts entries links heads },
+}
+
+impl SideLists {
+    ghost use Rattle.drawing.specs.Sides.{list_at, Holds};
+
+    // Lists that have no entry.
+    pub(crate) fn empty() -> Self
+        ensures { Holds result (λ _. []) }
+    {
+        SideLists {
+            counts: [0; NUMBERS],
+            entries: [0; ENTRIES],
+            links: [None; ENTRIES],
+            heads: [None; NUMBERS],
+        }
+    }
+
+    // The list of a unit.
+    pub(crate) fn list(&self, unit: usize) -> &[u16]
+        requires { unit ≤ 1024 }
+        ensures same { result.now ≡ list_at self.now unit }
+        ensures placed { Placed result.now }
+        ensures few { length result.now ≤ 8 }
+    {
+        let first = LIST * unit;
+        &self.entries[first..first + self.counts[unit] as usize]
+    }
+
+    // The place of the last entry that is this material.
+    pub(crate) fn last_place(&self, material: u16) -> Option<u16>
+        requires some { 1 ≤ material }
+        requires known { material ≤ 1024 }
+        ensures { LastBelow self.now.entries material (after result) 8200 }
+    {
+        self.heads[material as usize]
+    }
+
+    // The place of the last entry before this one that is the same material.
+    pub(crate) fn place_before(&self, place: u16) -> Option<u16>
+        requires within { place < 8200 }
+        requires some { 1 ≤ slice_index self.now.entries place }
+        ensures { LastBelow self.now.entries (slice_index self.now.entries place) (after result) place }
+    {
+        self.links[place as usize]
+    }
+
+    // The unit whose list has the entry at this place.
+    pub(crate) fn owner(place: u16) -> usize
+        ensures { result ≡ place / 8 }
+    {
+        place as usize / LIST
+    }
+
+    // Puts one more entry at the end of a unit's list. The units after it have no entry yet.
+    pub(crate) fn push(&mut self, unit: u16, material: u16)
+        requires known { unit ≤ 1024 }
+        requires some { 1 ≤ material }
+        requires small { material ≤ 1024 }
+        requires room { length (list_at self.old unit) < 8 }
+        requires last { (v : ℕ) → unit < v → list_at self.old v ≡ [] }
+        ensures { Holds self.new (with_entry (list_at self.old) unit material) }
+    {
+        let own = unit as usize;
+        let kind = material as usize;
+        let place = LIST * own + self.counts[own] as usize;
+        self.entries[place] = material;
+        self.links[place] = self.heads[kind];
+        self.heads[kind] = Some(place as u16);
+        self.counts[own] += 1;
+    }
+}
