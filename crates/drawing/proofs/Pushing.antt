@@ -1,5 +1,5 @@
 -- One more entry at the end of a unit's list. The units after it have no entry yet.
-use Rattle.std.proofs.Common.{◌≡◌, ℕ, ◌+◌, ◌-◌, ◌*◌, ◌/◌, ◌%◌, ◌<◌, ◌≤◌, eqb, List, [], ◌∷◌, ◌++◌, length, get_or, take, drop, set, replicate, Some, None, sym, refl, ap, ◌∙◌, subst, ⊎_elim, arith}
+use Rattle.std.proofs.Common.{◌≡◌, ℕ, ◌+◌, ◌-◌, ◌*◌, ◌/◌, ◌%◌, ◌<◌, ◌≤◌, eqb, List, [], ◌∷◌, ◌++◌, length, get_or, take, drop, set, replicate, sym, refl, ap, ◌∙◌, subst, ⊎_elim, arith}
 use Rattle.std.proofs.lemmas.List.{get_or-set_same, get_or-set_other, get_or_past, get_or-replicate, length-replicate, length-set, length-take, length-drop, drop-set-add, drop-set-lt, take-set-le, take_more_set}
 use Rattle.std.proofs.lemmas.Bool.{cases_eq, cases_lt, eq-eqb, ne_eqb, cond-true, cond-false}
 use Rattle.drawing.specs.declared.lists.SideLists.{SideLists}
@@ -87,12 +87,12 @@ module _ (s : SideLists) (u x : ℕ) (known : u ≤ 1024) (some : 1 ≤ x) (smal
       (λ (c : v ≡ u → ⊥). other_entry (8 * v + j) (omega (arith, few_yet)) ∙ s.walkable.unlisted v j (omega (arith, other_count v c)) i)
       (cases_eq v u)
 
-  pub walkable_more : Walkable (counts' s u) (entries' s u x) (set s.links (8 * u + get_or s.counts u 0) (get_or s.heads x None)) (set s.heads x (Some (8 * u + get_or s.counts u 0)))
+  pub walkable_more : Walkable (counts' s u) (entries' s u x) (set s.links (8 * u + get_or s.counts u 0) (get_or s.heads x 0)) (set s.heads x (8 * u + get_or s.counts u 0 + 1))
   walkable_more = record {
     counts_long = length-set s.counts u (get_or s.counts u 0 + 1) ∙ s.walkable.counts_long;
     entries_long = length-set s.entries (8 * u + get_or s.counts u 0) x ∙ s.walkable.entries_long;
-    links_long = length-set s.links (8 * u + get_or s.counts u 0) (get_or s.heads x None) ∙ s.walkable.links_long;
-    heads_long = length-set s.heads x (Some (8 * u + get_or s.counts u 0)) ∙ s.walkable.heads_long;
+    links_long = length-set s.links (8 * u + get_or s.counts u 0) (get_or s.heads x 0) ∙ s.walkable.links_long;
+    heads_long = length-set s.heads x (8 * u + get_or s.counts u 0 + 1) ∙ s.walkable.heads_long;
     few = λ v.
         ⊎_elim
         (λ (c : v ≡ u). subst (λ (w : ℕ). get_or (counts' s u) w 0 ≤ 8) (sym c) (omega (arith, own_count, few_yet)))
@@ -146,20 +146,20 @@ pub all_same : {X : Type 0} (n i : ℕ) (d : X) → get_or (replicate n d) i d �
 all_same n i d = ⊎_elim (λ (l : i < n). get_or-replicate n i d d l) (λ (l : n ≤ i). get_or_past (replicate n d) i d (omega (arith, length-replicate n d))) (cases_lt i n)
 
 -- where no place holds anything, all can be walked, and every list is empty
-pub walkable_none : Walkable (replicate 1025 0) (replicate 8200 0) (replicate 8200 None) (replicate 1025 None)
+pub walkable_none : Walkable (replicate 1025 0) (replicate 8200 0) (replicate 8200 0) (replicate 1025 0)
 walkable_none = none 1025 8200 refl refl
   where
-    none : (n k : ℕ) → n ≡ 1025 → k ≡ 8200 → Walkable (replicate n 0) (replicate k 0) (replicate k None) (replicate n None)
+    none : (n k : ℕ) → n ≡ 1025 → k ≡ 8200 → Walkable (replicate n 0) (replicate k 0) (replicate k 0) (replicate n 0)
     none n k numbers places = record {
       counts_long = length-replicate n 0 ∙ numbers;
       entries_long = length-replicate k 0 ∙ places;
-      links_long = length-replicate k None ∙ places;
-      heads_long = length-replicate n None ∙ numbers;
+      links_long = length-replicate k 0 ∙ places;
+      heads_long = length-replicate n 0 ∙ numbers;
       few = λ u. omega (arith, all_same {X = ℕ} n u 0);
       listed = λ u j l. absurd (omega (arith, all_same {X = ℕ} n u 0));
       unlisted = λ u j l i. all_same {X = ℕ} k (8 * u + j) 0;
       known = λ e. omega (arith, all_same {X = ℕ} k e 0);
-      chained = linked_none (replicate k 0) (replicate k None) (replicate n None) 8200 (λ e. all_same {X = ℕ} k e 0) (λ x. all_same n x None);
+      chained = linked_none (replicate k 0) (replicate k 0) (replicate n 0) 8200 (λ e. all_same {X = ℕ} k e 0) (λ x. all_same {X = ℕ} n x 0);
     }
 
 pub lists_none : (n k u : ℕ) → listed (replicate n 0) (replicate k 0) u ≡ []

@@ -1,5 +1,5 @@
 -- How the lists of one side stand in arrays, and how each entry is linked to the last before it that is the same material.
-use Rattle.std.specs.Prelude.{◌≡◌, ℕ, ◌+◌, ◌*◌, ◌<◌, ◌≤◌, ◌≢◌, cond, List, [], ◌∷◌, ◌++◌, length, take, drop, Some, None, Option, ◌==◌, slice_index, slice_index_or}
+use Rattle.std.specs.Prelude.{◌≡◌, ℕ, ◌+◌, ◌*◌, ◌<◌, ◌≤◌, ◌≢◌, cond, List, [], ◌∷◌, ◌++◌, length, take, drop, Some, None, Option, ◌==◌, slice_index}
 
 -- unit u's list: its entries stand from place 8 u on
 abbrev pub listed : (counts entries : List ℕ) → ℕ → List ℕ
@@ -17,12 +17,12 @@ pub record LastBelow (entries : List ℕ) (x h n : ℕ) : Type 0 where
   pub none_after : (e : ℕ) → h ≤ e → e < n → slice_index entries e ≢ x
 
 -- the entries below n are linked: each to the last before it that has the same material, and each material to its last
-pub record Linked (entries : List ℕ) (links heads : List (Option ℕ)) (n : ℕ) : Type 0 where
-  pub linked : (e : ℕ) → e < n → 1 ≤ slice_index entries e → LastBelow entries (slice_index entries e) (after (slice_index_or links e None)) e
-  pub headed : (x : ℕ) → 1 ≤ x → LastBelow entries x (after (slice_index_or heads x None)) n
+pub record Linked (entries links heads : List ℕ) (n : ℕ) : Type 0 where
+  pub linked : (e : ℕ) → e < n → 1 ≤ slice_index entries e → LastBelow entries (slice_index entries e) (slice_index links e) e
+  pub headed : (x : ℕ) → 1 ≤ x → LastBelow entries x (slice_index heads x) n
 
 -- these can be walked by unit and by material: lists of at most eight materials, other places 0, all linked
-pub record Walkable (counts entries : List ℕ) (links heads : List (Option ℕ)) : Type 0 where
+pub record Walkable (counts entries links heads : List ℕ) : Type 0 where
   pub counts_long : length counts ≡ 1025
   pub entries_long : length entries ≡ 8200
   pub links_long : length links ≡ 8200
