@@ -137,9 +137,9 @@ module _ (s : SideLists) (u x : ℕ) (known : u ≤ 1024) (some : 1 ≤ x) (smal
   pub lists_more : (v : ℕ) → listed (counts' s u) (entries' s u x) v ≡ with_entry (list_at s) u x v
   lists_more v =
       ⊎_elim
-        (λ (c : v ≡ u). subst (λ (w : ℕ). listed (counts' s u) (entries' s u x) w ≡ list_at s w ++ (x ∷ [])) (sym c) own_list ∙ sym (cond-true (eqb v u) (list_at s v ++ (x ∷ [])) (list_at s v) (eq-eqb v u c)))
-        (λ (c : v ≡ u → ⊥). other_list v c ∙ sym (cond-false (eqb v u) (list_at s v ++ (x ∷ [])) (list_at s v) (ne_eqb v u c)))
-        (cases_eq v u)
+      (λ (c : v ≡ u). subst (λ (w : ℕ). listed (counts' s u) (entries' s u x) w ≡ list_at s w ++ (x ∷ [])) (sym c) own_list ∙ sym (cond-true (eqb v u) (list_at s v ++ (x ∷ [])) (list_at s v) (eq-eqb v u c)))
+      (λ (c : v ≡ u → ⊥). other_list v c ∙ sym (cond-false (eqb v u) (list_at s v ++ (x ∷ [])) (list_at s v) (ne_eqb v u c)))
+      (cases_eq v u)
 
 -- a list of one value gives it at every place, where it is also the default
 pub all_same : {X : Type 0} (n i : ℕ) (d : X) → get_or (replicate n d) i d ≡ d

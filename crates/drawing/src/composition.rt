@@ -1,9 +1,9 @@
 // Which live units lead to a wanted material, and by how many units: breadth first, against the arcs.
-ghost use Rattle.std.specs.Prelude.{◌≡◌, ◌+◌, ◌≤◌, ◌∷◌, length, true};
+ghost use Rattle.std.specs.Prelude.{◌≡◌, ◌+◌, ◌≤◌, [], ◌∷◌, length, true, false};
 ghost use Rattle.book.specs.Layers.{names};
 ghost use Rattle.structure.specs.Problem.{Member};
 ghost use Rattle.queue.specs.Waiting.{waits, capacity};
-ghost use Rattle.drawing.specs.Flags.{flagged};
+ghost use Rattle.drawing.specs.Flags.{Flags, flagged};
 ghost use Rattle.drawing.specs.Lists.{Placed};
 ghost use Rattle.drawing.specs.Network.{taken_down};
 ghost use Rattle.drawing.specs.Composition.{Composed, Asked, Spreading, asked_for};
@@ -20,46 +20,58 @@ pub(crate) struct Need {
     rank: u16,
 }
 
-// Asks for a material: it waits with this rank, unless it was asked for before.
-fn ask(material: u16, rank: u16, asked: &mut [bool; NUMBERS], waiting: &mut WaitingList<Need>)
-    requires known { material ≤ 1024 }
-    requires room { (capacity waiting.old ≡ 1025) × (length (waits waiting.old) ≤ asked_for asked.old) }
-    ensures asked { Asked (λ x. x ≡ material) rank asked.old (waits waiting.old) asked.new (waits waiting.new) }
-    ensures room { capacity waiting.new ≡ capacity waiting.old }
-{
-    if !asked[material as usize] {
-        asked[material as usize] = true;
-        waiting.push(Need { material, rank }).unwrap();
-    }
+// What was asked for, and what of it still waits.
+#[derive(Drop)]
+struct Needs<'a> {
+    asked: [bool; NUMBERS],
+    waiting: WaitingList<'a, Need>,
+    ghost long: { length asked ≡ 1025 },
+    ghost places: { capacity waiting ≡ 1025 },
+    ghost asked_once: { length (waits waiting) ≤ asked_for asked },
 }
 
-// Asks for each wanted material, for units of rank 1.
-fn ask_wanted(network: &Network, asked: &mut [bool; NUMBERS], waiting: &mut WaitingList<Need>)
-    requires room { (capacity waiting.old ≡ 1025) × (length (waits waiting.old) ≤ asked_for asked.old) }
-    ensures asked { Asked (Member (taken_down network.now).wanted) 1 asked.old (waits waiting.old) asked.new (waits waiting.new) }
-    ensures room { capacity waiting.new ≡ capacity waiting.old }
-{
-    for x in 1..=network.materials {
-        if network.wanted[x as usize] {
-            ask(x, 1, asked, waiting);
+impl<'a> Needs<'a> {
+    // Nothing was asked for yet.
+    fn new(places: &'a mut [Need; NUMBERS]) -> Self
+        ensures asked { Flags result.asked (λ _. false) }
+        ensures waiting { waits result.waiting ≡ [] }
+    {
+        Needs {
+            asked: no_flags(),
+            waiting: WaitingList::new(places),
         }
     }
-}
 
-// Asks for each material of a list, for units of this rank.
-fn ask_each(
-    materials: &[u16],
-    rank: u16,
-    asked: &mut [bool; NUMBERS],
-    waiting: &mut WaitingList<Need>,
-)
-    requires known { Placed materials.now }
-    requires room { (capacity waiting.old ≡ 1025) × (length (waits waiting.old) ≤ asked_for asked.old) }
-    ensures asked { Asked (λ x. names x materials.now ≡ true) rank asked.old (waits waiting.old) asked.new (waits waiting.new) }
-    ensures room { capacity waiting.new ≡ capacity waiting.old }
-{
-    for x in materials {
-        ask(*x, rank, asked, waiting);
+    // Asks for a material: it waits with this rank, unless it was asked for before.
+    fn ask(&mut self, material: u16, rank: u16)
+        requires { material ≤ 1024 }
+        ensures { Asked (λ x. x ≡ material) rank self.old.asked (waits self.old.waiting) self.new.asked (waits self.new.waiting) }
+    {
+        if !self.asked[material as usize] {
+            self.asked[material as usize] = true;
+            self.waiting.push(Need { material, rank }).unwrap();
+        }
+    }
+
+    // Asks for each wanted material, for units of rank 1.
+    fn ask_wanted(&mut self, network: &Network)
+        ensures { Asked (Member (taken_down network.now).wanted) 1 self.old.asked (waits self.old.waiting) self.new.asked (waits self.new.waiting) }
+    {
+        for x in 1..=network.materials {
+            if network.wanted[x as usize] {
+                self.ask(x, 1);
+            }
+        }
+    }
+
+    // Asks for each material of a list, for units of this rank.
+    fn ask_each(&mut self, materials: &[u16], rank: u16)
+        requires { Placed materials.now }
+        ensures { Asked (λ x. names x materials.now ≡ true) rank self.old.asked (waits self.old.waiting) self.new.asked (waits self.new.waiting) }
+    {
+        for x in materials {
+            self.ask(*x, rank);
+        }
     }
 }
 
@@ -69,45 +81,31 @@ fn rank_makers(
     live: &[bool; NUMBERS],
     need: Need,
     ranks: &mut [u16; NUMBERS],
-    asked: &mut [bool; NUMBERS],
-    waiting: &mut WaitingList<Need>,
+    needs: &mut Needs,
 )
-    requires spreading { Spreading (taken_down network.now) (flagged live.now) asked.old ranks.old (need ∷ waits waiting.old) need.rank }
-    requires room { (capacity waiting.old ≡ 1025) × (need.rank + length (waits waiting.old) ≤ 1 + asked_for asked.old) }
-    ensures spreading { Spreading (taken_down network.now) (flagged live.now) asked.new ranks.new (waits waiting.new) need.rank }
-    ensures equally { length (waits waiting.new) + asked_for asked.old ≡ length (waits waiting.old) + asked_for asked.new }
-    ensures room { capacity waiting.new ≡ capacity waiting.old }
+    requires spreading { Spreading (taken_down network.now) (flagged live.now) needs.old.asked ranks.old (need ∷ waits needs.old.waiting) need.rank }
+    requires room { need.rank + length (waits needs.old.waiting) ≤ 1 + asked_for needs.old.asked }
+    ensures spreading { Spreading (taken_down network.now) (flagged live.now) needs.new.asked ranks.new (waits needs.new.waiting) need.rank }
+    ensures equally { length (waits needs.new.waiting) + asked_for needs.old.asked ≡ length (waits needs.old.waiting) + asked_for needs.new.asked }
 {
     let mut next = network.outputs.last_place(need.material);
     while let Some(place) = next {
         let unit = SideLists::owner(place);
         if live[unit] && ranks[unit] == 0 {
             ranks[unit] = need.rank;
-            ask_each(
-                network.inputs.list(unit),
-                need.rank + 1,
-                asked,
-                waiting,
-            );
+            needs.ask_each(network.inputs.list(unit), need.rank + 1);
         }
         next = network.outputs.place_before(place);
     }
 }
 
 // Meets the needs in the order in which they wait, until none does.
-fn spread(
-    network: &Network,
-    live: &[bool; NUMBERS],
-    ranks: &mut [u16; NUMBERS],
-    asked: &mut [bool; NUMBERS],
-    waiting: &mut WaitingList<Need>,
-)
-    requires spreading { Spreading (taken_down network.now) (flagged live.now) asked.old ranks.old (waits waiting.old) 1 }
-    requires room { (capacity waiting.old ≡ 1025) × (length (waits waiting.old) ≤ asked_for asked.old) }
+fn spread(network: &Network, live: &[bool; NUMBERS], ranks: &mut [u16; NUMBERS], needs: &mut Needs)
+    requires { Spreading (taken_down network.now) (flagged live.now) needs.old.asked ranks.old (waits needs.old.waiting) 1 }
     ensures { Composed (taken_down network.now) (flagged live.now) ranks.new }
 {
-    while let Some(need) = waiting.pop() {
-        rank_makers(network, live, need, ranks, asked, waiting);
+    while let Some(need) = needs.waiting.pop() {
+        rank_makers(network, live, need, ranks, needs);
     }
 }
 
@@ -116,13 +114,12 @@ pub(crate) fn compose(network: &Network, live: &[bool; NUMBERS]) -> [u16; NUMBER
     ensures { Composed (taken_down network.now) (flagged live.now) result }
 {
     let mut ranks = [0; NUMBERS];
-    let mut asked = no_flags();
     let mut places = [Need {
         material: 0,
         rank: 0,
     }; NUMBERS];
-    let mut waiting = WaitingList::new(&mut places);
-    ask_wanted(network, &mut asked, &mut waiting);
-    spread(network, live, &mut ranks, &mut asked, &mut waiting);
+    let mut needs = Needs::new(&mut places);
+    needs.ask_wanted(network);
+    spread(network, live, &mut ranks, &mut needs);
     ranks
 }

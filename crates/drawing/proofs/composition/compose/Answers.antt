@@ -12,9 +12,6 @@ use Rattle.drawing.proofs.composition.compose.Goals as goal
 pub spread-requires : goal.spread-requires
 spread-requires c =
     let p = taken_down c.args.network.now in
-    let asked = c.no_flags-asked.result in
-    let a = subst (λ (l : List Need). Asked (Member p.wanted) 1 asked l c.ask_wanted.new.asked (waits c.ask_wanted.new.waiting)) c.new-waiting.ensures.empty c.ask_wanted.ensures.asked in
-    record {
-      spreading = begun (replicate 1025 0) a c.no_flags-asked.ensures.each (λ u. all_same {X = ℕ} 1025 u 0);
-      room = (c.ask_wanted.ensures.room ∙ ap length c.new-waiting.ensures.memory, omega (arith, added_equally a));
-    }
+    let needs = c.new-needs.result in
+    let asked = subst (λ (l : List Need). Asked (Member p.wanted) 1 needs.asked l c.ask_wanted.new.self.asked (waits c.ask_wanted.new.self.waiting)) c.new-needs.ensures.waiting c.ask_wanted.ensures in
+    begun (replicate 1025 0) asked c.new-needs.ensures.asked.each (λ u. all_same {X = ℕ} 1025 u 0)

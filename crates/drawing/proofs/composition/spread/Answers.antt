@@ -13,19 +13,19 @@ rank_makers-requires c =
     let g = flagged c.args.live.now in
     let (r, s, room) = c.loop-need.invariant.0 in
     let oldest = c.in-Some.ensures.told.oldest in
-    let (rank, spreading) = at_first (subst (λ (l : List Need). Spreading p g c.loop-need.asked c.loop-need.ranks l r) oldest s) in
+    let (rank, spreading) = at_first (subst (λ (l : List Need). Spreading p g c.loop-need.needs.asked c.loop-need.ranks l r) oldest s) in
     record {
       spreading = spreading;
-      room = (c.in-Some.ensures.room.kept ∙ c.loop-need.invariant.1, omega (arith, ap length oldest));
+      room = omega (arith, ap length oldest);
     }
 
 pub loop-need-smaller : goal.loop-need-smaller
 loop-need-smaller c =
-    omega (arith, c.rank_makers.ensures.equally, ap length c.in-Some.ensures.told.oldest, count_by-le-length (λ (b : Bool). b) c.rank_makers.new.asked, count_by-le-length (λ (b : Bool). b) c.loop-need.asked)
+    omega (arith, c.rank_makers.ensures.equally, c.loop-need.needs.long, c.rank_makers.new.needs.long, ap length c.in-Some.ensures.told.oldest, count_by-le-length (λ (b : Bool). b) c.rank_makers.new.needs.asked, count_by-le-length (λ (b : Bool). b) c.loop-need.needs.asked)
 
 pub returns : goal.returns
 returns c =
     let p = taken_down c.args.network.now in
     let g = flagged c.args.live.now in
     let (r, s, room) = c.loop-need.invariant.0 in
-    ended (subst (λ (l : List Need). Spreading p g c.loop-need.asked c.loop-need.ranks l r) c.in_default.ensures.told.empty s) c.loop-need.invariant.2
+    ended (subst (λ (l : List Need). Spreading p g c.loop-need.needs.asked c.loop-need.ranks l r) c.in_default.ensures.told.empty s) c.loop-need.invariant.1
