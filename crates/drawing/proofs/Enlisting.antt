@@ -9,16 +9,6 @@ use Rattle.drawing.specs.Reduction.{Among, times, arcs_below, Eligible, Unmade, 
 use Rattle.drawing.proofs.Entries.{names_kept, names_last, names_pushed}
 use Rattle.drawing.proofs.Arcs.{arcs_same}
 
-pub no_flags : (n u : ℕ) → flagged (replicate n false) u ≡ false
-no_flags zero u = refl
-no_flags (suc n) zero = refl
-no_flags (suc n) (suc u) = no_flags n u
-
-pub no_counts : (n x : ℕ) → get_or {A = ℕ} (replicate n 0) x 0 ≡ 0
-no_counts zero x = refl
-no_counts (suc n) zero = refl
-no_counts (suc n) (suc x) = no_counts n x
-
 module _ (p : Problem) where
   -- number 0 is nobody's
   pub enlisted_none : Bounded p → (live : List Bool) (ms : List ℕ) → length live ≡ 1025 → length ms ≡ 1025 →

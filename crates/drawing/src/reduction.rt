@@ -8,7 +8,7 @@ ghost use Rattle.drawing.specs.Lists.{Placed};
 ghost use Rattle.drawing.specs.Network.{taken_down};
 ghost use Rattle.drawing.specs.Reduction.{Among, times, zeros, Enlisted, Seeded, Reducing, Released};
 
-use crate::flags::NUMBERS;
+use crate::flags::{NUMBERS, no_flags};
 use crate::lists::SideLists;
 use crate::network::Network;
 use queue::WaitingList;
@@ -18,11 +18,13 @@ use queue::WaitingList;
 pub(crate) struct Reduced {
     pub(crate) live: [bool; NUMBERS],
     pub(crate) makers: [u16; NUMBERS],
+    ghost live_long: { length live ≡ 1025 },
+    ghost makers_long: { length makers ≡ 1025 },
 }
 
 // Is one of these bought?
-fn any_bought(entries: &[u16], bought: &[bool]) -> bool
-    requires { (Placed entries.now) × (length bought.now ≡ 1025) }
+fn any_bought(entries: &[u16], bought: &[bool; NUMBERS]) -> bool
+    requires { Placed entries.now }
     ensures { Decides result ((x : ℕ) × Among x entries.now × Member (flagged bought.now) x) }
 {
     for x in entries {
@@ -35,7 +37,8 @@ fn any_bought(entries: &[u16], bought: &[bool]) -> bool
 
 // One more maker for each entry.
 fn count_entries(entries: &[u16], makers: &mut [u16])
-    requires places { (Placed entries.now) × (length makers.old ≡ 1025) }
+    requires placed { Placed entries.now }
+    requires places { length makers.old ≡ 1025 }
     requires few { length entries.now ≤ 8 }
     requires low { (x : ℕ) → slice_index makers.old x ≤ 8200 }
     ensures { (x : ℕ) → slice_index makers.new x ≡ slice_index makers.old x + times x entries.now }
@@ -63,7 +66,7 @@ fn enlist(network: &Network) -> Reduced
     ensures { Enlisted (taken_down network.now) result.live result.makers (network.now.units + 1) }
 {
     let mut reduced = Reduced {
-        live: [false; NUMBERS],
+        live: no_flags(),
         makers: [0; NUMBERS],
     };
     for unit in 1..=network.units as usize {
@@ -72,87 +75,94 @@ fn enlist(network: &Network) -> Reduced
     reduced
 }
 
-// Lets a material wait if it is neither bought nor made.
-fn seed_material(network: &Network, material: u16, makers: &[u16], waiting: &mut WaitingList<u16>)
-    requires known { (1 ≤ material) × (material ≤ network.now.materials) }
-    requires places { (length makers.now ≡ 1025) × (capacity waiting.old ≡ 1025) }
-    requires before { Seeded (taken_down network.now) makers.now (waits waiting.old) material }
-    ensures after { Seeded (taken_down network.now) makers.now (waits waiting.new) (material + 1) }
-    ensures places { capacity waiting.new ≡ 1025 }
-{
-    if !network.bought[material as usize] && makers[material as usize] == 0 {
-        waiting.push(material).unwrap();
-    }
+// A reduction under way: what is reduced so far, and the materials that wait to be taken up.
+#[derive(Drop)]
+struct Reduction<'a> {
+    reduced: Reduced,
+    waiting: WaitingList<'a, u16>,
+    ghost places: { capacity waiting ≡ 1025 },
 }
 
-// Lets each material wait that is neither bought nor made.
-fn seed(network: &Network, makers: &[u16], waiting: &mut WaitingList<u16>)
-    requires places { (length makers.now ≡ 1025) × (capacity waiting.old ≡ 1025) }
-    requires empty { waits waiting.old ≡ [] }
-    ensures seeded { Seeded (taken_down network.now) makers.now (waits waiting.new) (network.now.materials + 1) }
-    ensures places { capacity waiting.new ≡ 1025 }
-{
-    for material in 1..=network.materials {
-        seed_material(network, material, makers, waiting);
-    }
-}
-
-// One maker less for each entry; what has none left waits.
-fn release(entries: &[u16], makers: &mut [u16], waiting: &mut WaitingList<u16>)
-    requires places { (Placed entries.now) × ((length makers.old ≡ 1025) × (capacity waiting.old ≡ 1025)) }
-    requires room { length (waits waiting.old) ≤ zeros makers.old }
-    requires counted { (x : ℕ) → times x entries.now ≤ slice_index makers.old x }
-    ensures done { Released entries.now makers.old (waits waiting.old) makers.new (waits waiting.new) }
-    ensures places { capacity waiting.new ≡ 1025 }
-{
-    for x in entries {
-        makers[*x as usize] -= 1;
-        if makers[*x as usize] == 0 {
-            waiting.push(*x).unwrap();
+impl<'a> Reduction<'a> {
+    // Lets a material wait if it is neither bought nor made.
+    fn seed_material(&mut self, network: &Network, material: u16)
+        requires some { 1 ≤ material }
+        requires known { material ≤ network.now.materials }
+        requires before { Seeded (taken_down network.now) self.old.reduced.makers (waits self.old.waiting) material }
+        ensures after { Seeded (taken_down network.now) self.old.reduced.makers (waits self.new.waiting) (material + 1) }
+        ensures same { self.new.reduced ≡ self.old.reduced }
+    {
+        if !network.bought[material as usize] && self.reduced.makers[material as usize] == 0 {
+            self.waiting.push(material).unwrap();
         }
     }
-}
 
-// Removes each live unit that takes a material which nobody makes.
-fn sweep(network: &Network, material: u16, reduced: &mut Reduced, waiting: &mut WaitingList<u16>)
-    requires places { capacity waiting.old ≡ 1025 }
-    requires before { Reducing (taken_down network.now) reduced.old.live reduced.old.makers (material ∷ waits waiting.old) }
-    ensures after { Reducing (taken_down network.now) reduced.new.live reduced.new.makers (waits waiting.new) }
-    ensures grown { length (waits waiting.new) + zeros reduced.old.makers ≤ length (waits waiting.old) + zeros reduced.new.makers }
-    ensures places { capacity waiting.new ≡ 1025 }
-{
-    let mut next = network.inputs.last_place(material);
-    while let Some(place) = next {
-        let unit = SideLists::owner(place);
-        if reduced.live[unit] {
-            reduced.live[unit] = false;
-            release(network.outputs.list(unit), &mut reduced.makers, waiting);
+    // Lets each material wait that is neither bought nor made.
+    fn seed(&mut self, network: &Network)
+        requires { waits self.old.waiting ≡ [] }
+        ensures seeded { Seeded (taken_down network.now) self.old.reduced.makers (waits self.new.waiting) (network.now.materials + 1) }
+        ensures same { self.new.reduced ≡ self.old.reduced }
+    {
+        for material in 1..=network.materials {
+            self.seed_material(network, material);
         }
-        next = network.inputs.place_before(place);
     }
-}
 
-// Takes up what waits until nothing does.
-fn drain(network: &Network, reduced: &mut Reduced, waiting: &mut WaitingList<u16>)
-    requires places { capacity waiting.old ≡ 1025 }
-    requires before { Reducing (taken_down network.now) reduced.old.live reduced.old.makers (waits waiting.old) }
-    ensures { Reducing (taken_down network.now) reduced.new.live reduced.new.makers [] }
-{
-    while let Some(material) = waiting.pop() {
-        sweep(network, material, reduced, waiting);
+    // One maker less for each entry; what has none left waits.
+    fn release(&mut self, entries: &[u16])
+        requires placed { Placed entries.now }
+        requires room { length (waits self.old.waiting) ≤ zeros self.old.reduced.makers }
+        requires counted { (x : ℕ) → times x entries.now ≤ slice_index self.old.reduced.makers x }
+        ensures done { Released entries.now self.old.reduced.makers (waits self.old.waiting) self.new.reduced.makers (waits self.new.waiting) }
+        ensures same { self.new.reduced.live ≡ self.old.reduced.live }
+    {
+        for x in entries {
+            self.reduced.makers[*x as usize] -= 1;
+            if self.reduced.makers[*x as usize] == 0 {
+                self.waiting.push(*x).unwrap();
+            }
+        }
+    }
+
+    // Removes each live unit that takes a material which nobody makes.
+    fn sweep(&mut self, network: &Network, material: u16)
+        requires { Reducing (taken_down network.now) self.old.reduced.live self.old.reduced.makers (material ∷ waits self.old.waiting) }
+        ensures after { Reducing (taken_down network.now) self.new.reduced.live self.new.reduced.makers (waits self.new.waiting) }
+        ensures grown { length (waits self.new.waiting) + zeros self.old.reduced.makers ≤ length (waits self.old.waiting) + zeros self.new.reduced.makers }
+    {
+        let mut next = network.inputs.last_place(material);
+        while let Some(place) = next {
+            let unit = SideLists::owner(place);
+            if self.reduced.live[unit] {
+                self.reduced.live[unit] = false;
+                self.release(network.outputs.list(unit));
+            }
+            next = network.inputs.place_before(place);
+        }
+    }
+
+    // Takes up what waits until nothing does.
+    fn drain(&mut self, network: &Network)
+        requires { Reducing (taken_down network.now) self.old.reduced.live self.old.reduced.makers (waits self.old.waiting) }
+        ensures { Reducing (taken_down network.now) self.new.reduced.live self.new.reduced.makers [] }
+    {
+        while let Some(material) = self.waiting.pop() {
+            self.sweep(network, material);
+        }
     }
 }
 
 // Leaves the largest supported set of units.
 pub(crate) fn reduce(network: &Network) -> Reduced
-    ensures long { (length result.live ≡ 1025) × (length result.makers ≡ 1025) }
     ensures largest { Largest (taken_down network.now) (flagged result.live) }
     ensures counted { (x : ℕ) → Decides (nat_lt 0 (slice_index result.makers x)) (MadeIn (taken_down network.now) (flagged result.live) x) }
 {
-    let mut reduced = enlist(network);
     let mut places = [0; NUMBERS];
-    let mut waiting = WaitingList::new(&mut places);
-    seed(network, &reduced.makers, &mut waiting);
-    drain(network, &mut reduced, &mut waiting);
-    reduced
+    let mut reduction = Reduction {
+        reduced: enlist(network),
+        waiting: WaitingList::new(&mut places),
+    };
+    reduction.seed(network);
+    reduction.drain(network);
+    reduction.reduced
 }

@@ -20,7 +20,7 @@ loop-x-preserved c y =
     let i = c.loop-x.x-index in
     let x = get_or entries i 0 in
     let ms = c.loop-x.makers in
-    let inside : x < length ms = omega (arith, c.requires.places.0 i) in
+    let inside : x < length ms = omega (arith, c.requires.placed i) in
     let more : times y (take (i + 1) entries) ≡ times y (take i entries ++ x ∷ []) = ap (times y) (take_more entries i 0 (omega arith)) in
     ⊎_elim
     (λ (e : y ≡ x).

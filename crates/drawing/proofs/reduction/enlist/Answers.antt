@@ -2,16 +2,15 @@ use Rattle.std.proofs.Common.{◌≡◌, ℕ, ◌+◌, false, List, replicate, s
 use Rattle.std.proofs.lemmas.List.{length-replicate}
 use Rattle.drawing.specs.Network.{taken_down}
 use Rattle.drawing.specs.Reduction.{Enlisted}
-use Rattle.drawing.proofs.Enlisting.{no_flags, no_counts, enlisted_none}
+use Rattle.drawing.proofs.Pushing.{all_same}
+use Rattle.drawing.proofs.Enlisting.{enlisted_none}
 use Rattle.drawing.proofs.reduction.enlist.Goals as goal
 
 pub loop-unit-init : goal.loop-unit-init
 loop-unit-init c =
-    let live = replicate 1025 false in
     let makers : List ℕ = replicate 1025 0 in
-    let long = length-replicate 1025 false in
-    let makers_long = length-replicate {A = ℕ} 1025 0 in
-    (enlisted_none (taken_down c.args.network.now) c.args.network.now.bounded live makers long makers_long (no_flags 1025) (no_counts 1025), omega arith)
+    let none = c.no_flags.ensures in
+    (enlisted_none (taken_down c.args.network.now) c.args.network.now.bounded c.no_flags.result makers none.long (length-replicate {A = ℕ} 1025 0) none.each (λ x. all_same {X = ℕ} 1025 x 0), omega arith)
 
 pub returns : goal.returns
 returns c =

@@ -1,4 +1,5 @@
-use Rattle.std.proofs.Common.{ℕ, ◌+◌, List, get_or, sym, ap, ◌∙◌, subst, arith}
+use Rattle.std.proofs.Common.{ℕ, ◌+◌, true, List, get_or, sym, ap, ◌∙◌, subst, arith}
+use Rattle.std.proofs.lemmas.List.{length-set}
 use Rattle.std.proofs.lemmas.Bool.{both_ways}
 use Rattle.drawing.specs.Flags.{flagged}
 use Rattle.drawing.specs.Network.{taken_down}
@@ -14,10 +15,14 @@ count_entries-requires c =
     let n = c.args.network.now in
     let t = c.requires.before in
     record {
-      places = (c.list-outputs.ensures.placed, t.makers_long);
+      placed = c.list-outputs.ensures.placed;
+      places = c.args.reduced.now.makers_long;
       few = c.list-outputs.ensures.few;
       low = λ x. omega (arith, t.counted x, arcs_few (taken_down n) x (flagged c.args.reduced.now.live) c.args.unit (list_few n.outputs));
     }
+
+pub invariant_of-reduced : goal.invariant_of-reduced
+invariant_of-reduced c = record { live_long = length-set c.args.reduced.now.live c.args.unit true ∙ c.args.reduced.now.live_long; makers_long = omega (arith, c.count_entries.auto.makers, c.args.reduced.now.makers_long) }
 
 pub returns-then-not-any_bought : goal.returns-then-not-any_bought
 returns-then-not-any_bought c =

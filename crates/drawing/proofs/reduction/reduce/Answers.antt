@@ -1,21 +1,18 @@
+use Rattle.std.proofs.Common.{sym, subst}
+use Rattle.queue.specs.Waiting.{waits}
+use Rattle.drawing.specs.declared.reduction.Reduced.{Reduced}
 use Rattle.drawing.specs.Network.{taken_down}
+use Rattle.drawing.specs.Reduction.{Reducing}
 use Rattle.drawing.proofs.Reducing.{reducing_starts, reduced_largest, reduced_counted}
 use Rattle.drawing.proofs.reduction.reduce.Goals as goal
 
 pub drain-requires : goal.drain-requires
 drain-requires c =
-    let n = c.args.network.now in
-    record {
-      places = c.seed.ensures.places;
-      before = reducing_starts (taken_down n) c.args.network.now.bounded c.enlist-reduced.ensures c.seed.ensures.seeded;
-    }
+    let p = taken_down c.args.network.now in
+    subst (λ (r : Reduced). Reducing p r.live r.makers (waits c.seed.new.self.waiting)) (sym c.seed.ensures.same) (reducing_starts p c.args.network.now.bounded c.enlist.ensures c.seed.ensures.seeded)
 
 pub returns : goal.returns
 returns c =
     let n = c.args.network.now in
     let t = c.drain.ensures in
-    record {
-      long = (t.live_long, t.makers_long);
-      largest = reduced_largest (taken_down n) c.args.network.now.bounded t;
-      counted = reduced_counted (taken_down n) c.args.network.now.bounded t;
-    }
+    record { largest = reduced_largest (taken_down n) n.bounded t; counted = reduced_counted (taken_down n) n.bounded t }
