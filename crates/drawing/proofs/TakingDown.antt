@@ -1,10 +1,12 @@
 -- What is taken down so far: all that is told of the numbers below one.
-use Rattle.std.proofs.Common.{◌≡◌, ℕ, ◌+◌, ◌<◌, ◌≤◌, Bool, true, false, cond, eqb, ltb, ◌⊎◌, List, [], ◌∷◌, ◌++◌, get_or, set, sym, refl, ap, ◌∙◌, subst, ⊎_elim, arith, length-set}
+use Rattle.std.proofs.Common.{◌≡◌, ℕ, ◌+◌, ◌<◌, ◌≤◌, Bool, true, false, cond, eqb, ltb, ◌⊎◌, List, [], ◌∷◌, ◌++◌, get_or, set, sym, refl, ap, ◌∙◌, ⊎_elim, arith, length-set}
 use mathlib.Core.Path.{fun_ext}
 use Rattle.std.proofs.lemmas.List.{get_or-set_same, get_or-set_other}
-use Rattle.std.proofs.lemmas.Bool.{cases_eq, cases_lt, cases_order, lt-ltb, le-ltb, eq-eqb, ne_eqb, cond-true, cond-false}
-use Rattle.book.specs.Meaning.{Meaning, material_count, unit_count}
-use Rattle.structure.specs.Problem.{Numbers, problem}
+use Rattle.std.proofs.lemmas.Bool.{cases_eq, cases_lt, cases_order, lt-ltb, le-ltb, eq-eqb, ne_eqb, cond-true, cond-false, false≢true}
+use Rattle.book.specs.Meaning.{Meaning, material_count, unit_count, WellFormed}
+use Rattle.book.specs.Layers.{names}
+use Rattle.structure.specs.Problem.{Numbers, Bounded, problem}
+use Rattle.structure.proofs.Bounds.{problem_bounded}
 use Rattle.drawing.specs.declared.lists.SideLists.{SideLists}
 use Rattle.drawing.specs.Flags.{Flags}
 use Rattle.drawing.specs.Lists.{with_entry, with_list}
@@ -142,3 +144,17 @@ problem_seen r = λ i. record {
   inputs = fun_ext r.inputs_read i;
   outputs = fun_ext r.outputs_read i;
 }
+
+-- what is known of materials and units is in bounds while no list is read yet
+pub bounded_early : {m : Meaning} {materials units : ℕ} {wanted bought standing : List Bool} (inputs outputs : SideLists) → WellFormed m → materials ≡ material_count m → units ≡ unit_count m →
+    Flags wanted (problem m).wanted → Flags bought (problem m).bought → Flags standing (problem m).standing → Holds inputs (λ _. []) → Holds outputs (λ _. []) →
+    Bounded (problem_of materials units wanted bought standing inputs outputs)
+bounded_early {m} inputs outputs well e f w b s i o =
+    let bounded = problem_bounded m well in
+    record {
+      wanted_known = λ x t. let k = bounded.wanted_known x (sym (w.each x) ∙ t) in (k.0, omega (arith, k.1, e));
+      bought_known = λ x t. let k = bounded.bought_known x (sym (b.each x) ∙ t) in (k.0, omega (arith, k.1, e));
+      units_known = λ u t. let k = bounded.units_known u (sym (s.each u) ∙ t) in (k.0, omega (arith, k.1, f));
+      inputs_known = λ u x t. absurd (false≢true (ap (names x) (sym (i u)) ∙ t));
+      outputs_known = λ u x t. absurd (false≢true (ap (names x) (sym (o u)) ∙ t));
+    }

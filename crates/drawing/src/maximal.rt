@@ -13,7 +13,7 @@ use crate::flags::NUMBERS;
 use crate::network::Network;
 use crate::picture::pictured;
 use crate::reduction::reduce;
-use crate::takedown::take_down;
+use crate::takedown::{take_lists, take_numbers};
 use book::{Book, Refusal};
 use sheet::Sheet;
 
@@ -76,6 +76,7 @@ pub fn draw<B: Book>(book: &mut B, sheet: Sheet) -> Result<Sheet, Refusal>
     ensures drawn_exactly_in_some { DrawnExactlyInSome (problem (B.Book.meaning book.old)) (answer_of result) }
     ensures same { book.new ≡ book.old }
 {
-    let network = take_down(book);
+    let mut network = take_numbers(book);
+    take_lists(book, &mut network);
     draw_network(&network, sheet)
 }

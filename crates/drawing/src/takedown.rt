@@ -6,7 +6,7 @@ ghost use Rattle.drawing.specs.Flags.{Flags};
 ghost use Rattle.drawing.specs.Lists.{with_list};
 ghost use Rattle.drawing.specs.Sides.{Holds, list_at};
 ghost use Rattle.drawing.specs.Network.{taken_down};
-ghost use Rattle.drawing.specs.TakingDown.{list_told};
+ghost use Rattle.drawing.specs.TakingDown.{NumbersTold, list_told};
 
 use crate::flags::{NUMBERS, no_flags};
 use crate::lists::SideLists;
@@ -20,9 +20,9 @@ enum Direction {
     Made,
 }
 
-// Takes down all that a draw needs of a book; each question is asked once.
-pub(crate) fn take_down<B: Book>(book: &mut B) -> Network
-    ensures seen { taken_down result ≡ problem (B.Book.meaning book.old) }
+// Takes down the numbers of a book: how many there are, which materials are wanted and bought, and which units stand.
+pub(crate) fn take_numbers<B: Book>(book: &mut B) -> Network
+    ensures told { NumbersTold (B.Book.meaning book.old) result }
     ensures same { book.new ≡ book.old }
 {
     let materials = book.materials();
@@ -30,19 +30,39 @@ pub(crate) fn take_down<B: Book>(book: &mut B) -> Network
     let mut wanted = no_flags();
     let mut bought = no_flags();
     read_materials(book, materials, &mut wanted, &mut bought);
-    let mut standing = no_flags();
-    let mut inputs = SideLists::empty();
-    let mut outputs = SideLists::empty();
-    read_units(book, units, &mut standing, &mut inputs, &mut outputs);
     Network {
         materials,
         units,
         wanted,
         bought,
-        standing,
-        inputs,
-        outputs,
+        standing: read_standing(book, units),
+        inputs: SideLists::empty(),
+        outputs: SideLists::empty(),
     }
+}
+
+// Takes down what each unit of the book takes and makes, where its numbers are taken down.
+pub(crate) fn take_lists<B: Book>(book: &mut B, network: &mut Network)
+    requires { NumbersTold (B.Book.meaning book.old) network.old }
+    ensures seen { taken_down network.new ≡ problem (B.Book.meaning book.old) }
+    ensures same { book.new ≡ book.old }
+{
+    let units = network.units;
+    let standing = network.standing;
+    read_lists(
+        book,
+        Direction::Taken,
+        units,
+        &standing,
+        &mut network.inputs,
+    );
+    read_lists(
+        book,
+        Direction::Made,
+        units,
+        &standing,
+        &mut network.outputs,
+    );
 }
 
 // Reads which materials are wanted and which are bought. No flag is set yet.
@@ -66,29 +86,36 @@ fn read_materials<B: Book>(
     }
 }
 
-// Reads which units stand, and the lists of those. Nothing is read yet.
-fn read_units<B: Book>(
+// Reads which units stand.
+fn read_standing<B: Book>(book: &mut B, units: u16) -> [bool; NUMBERS]
+    requires { units ≡ unit_count (B.Book.meaning book.old) }
+    ensures standing { Flags result (problem (B.Book.meaning book.old)).standing }
+    ensures same { book.new ≡ book.old }
+{
+    let mut standing = no_flags();
+    for unit in 1..=units {
+        standing[unit as usize] = book.stands(unit).unwrap_or(false);
+    }
+    standing
+}
+
+// Reads one side of the units that stand. Nothing is read of it yet.
+fn read_lists<B: Book>(
     book: &mut B,
+    direction: Direction,
     units: u16,
-    standing: &mut [bool; NUMBERS],
-    inputs: &mut SideLists,
-    outputs: &mut SideLists,
+    standing: &[bool; NUMBERS],
+    lists: &mut SideLists,
 )
     requires counted { units ≡ unit_count (B.Book.meaning book.old) }
-    requires none_standing { Flags standing.old (λ _. false) }
-    requires no_inputs { Holds inputs.old (λ _. []) }
-    requires no_outputs { Holds outputs.old (λ _. []) }
-    ensures standing { Flags standing.new (problem (B.Book.meaning book.old)).standing }
-    ensures inputs { Holds inputs.new (problem (B.Book.meaning book.old)).inputs }
-    ensures outputs { Holds outputs.new (problem (B.Book.meaning book.old)).outputs }
+    requires standing { Flags standing.now (problem (B.Book.meaning book.old)).standing }
+    requires none { Holds lists.old (λ _. []) }
+    ensures held { Holds lists.new (λ u. list_told direction u (B.Book.meaning book.old)) }
     ensures same { book.new ≡ book.old }
 {
     for unit in 1..=units {
-        let stands = book.stands(unit).unwrap_or(false);
-        standing[unit as usize] = stands;
-        if stands {
-            read_list(book, Direction::Taken, unit, inputs);
-            read_list(book, Direction::Made, unit, outputs);
+        if standing[unit as usize] {
+            read_list(book, direction, unit, lists);
         }
     }
 }

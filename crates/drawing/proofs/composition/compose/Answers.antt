@@ -1,10 +1,9 @@
-use Rattle.std.proofs.Common.{◌≡◌, ℕ, zero, suc, false, List, length, get_or, replicate, refl, ap, ◌∙◌, subst, arith}
+use Rattle.std.proofs.Common.{ℕ, List, replicate, subst}
 use Rattle.queue.specs.Waiting.{waits}
 use Rattle.structure.specs.Problem.{Member}
 use Rattle.drawing.specs.declared.composition.Need.{Need}
 use Rattle.drawing.specs.Network.{taken_down}
 use Rattle.drawing.specs.Composition.{Asked}
-use Rattle.drawing.proofs.Asking.{added_equally}
 use Rattle.drawing.proofs.Pushing.{all_same}
 use Rattle.drawing.proofs.Spreading.{begun}
 use Rattle.drawing.proofs.composition.compose.Goals as goal

@@ -1,5 +1,4 @@
-use Rattle.std.proofs.Common.{◌≡◌, ℕ, ◌<◌, Bool, true, length, get_or, Option, refl, sym, ap, ◌∙◌, subst, arith}
-use Rattle.std.proofs.lemmas.List.Sums.{count_by-le-length}
+use Rattle.std.proofs.Common.{ℕ, ◌<◌, length, Option, sym, ap, ◌∙◌, subst, arith}
 use Rattle.std.proofs.lemmas.Bool.{both_ways}
 use Rattle.book.specs.Layers.{names}
 use Rattle.structure.specs.Problem.{Member, Takes}
@@ -10,7 +9,7 @@ use Rattle.drawing.specs.Network.{taken_down}
 use Rattle.drawing.specs.Composition.{Ranked}
 use Rattle.drawing.proofs.Asking.{asked_same}
 use Rattle.drawing.proofs.Walks.{At, place_some}
-use Rattle.drawing.proofs.Makers.{Walking, needed_some, needed_known, walk_starts, walk_passes, walk_ranks, walk_ends}
+use Rattle.drawing.proofs.Makers.{Walking, needed_some, walk_starts, walk_passes, walk_ranks, walk_ends}
 use Rattle.drawing.proofs.composition.rank_makers.Goals as goal
 use Rattle.drawing.proofs.composition.rank_makers.Goals.{then-live-unit+then-ranks-unit-eq0, else-live-unit, else-live-unit-via-then-live-unit+else-ranks-unit-eq0, else-live-unit-via-else-live-unit}
 

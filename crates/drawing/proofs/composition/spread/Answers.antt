@@ -1,4 +1,4 @@
-use Rattle.std.proofs.Common.{Bool, List, length, ap, ◌∙◌, subst, arith}
+use Rattle.std.proofs.Common.{Bool, List, length, ap, subst, arith}
 use Rattle.std.proofs.lemmas.List.Sums.{count_by-le-length}
 use Rattle.drawing.specs.declared.composition.Need.{Need}
 use Rattle.drawing.specs.Flags.{flagged}

@@ -1,4 +1,4 @@
-use Rattle.std.proofs.Common.{◌≡◌, ◌<◌}
+use Rattle.std.proofs.Common.{◌<◌}
 use Rattle.queue.specs.Waiting.{waits}
 use Rattle.structure.specs.Problem.{Member}
 use Rattle.drawing.specs.Flags.{flagged}

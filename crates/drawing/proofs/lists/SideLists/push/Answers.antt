@@ -1,6 +1,5 @@
 -- The place is the one after the last of the unit's entries.
-use Rattle.std.proofs.Common.{arith}
-use Rattle.drawing.proofs.Pushing.{count_short, walkable_more, lists_more}
+use Rattle.drawing.proofs.Pushing.{walkable_more, lists_more}
 use Rattle.drawing.proofs.lists.SideLists.push.Goals as goal
 
 pub invariant_of-self : goal.invariant_of-self

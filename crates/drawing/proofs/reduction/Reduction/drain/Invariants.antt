@@ -1,4 +1,4 @@
-use Rattle.std.proofs.Common.{◌≡◌, ◌+◌, ◌-◌, length}
+use Rattle.std.proofs.Common.{◌+◌, ◌-◌, length}
 use Rattle.queue.specs.Waiting.{waits}
 use Rattle.drawing.specs.Network.{taken_down}
 use Rattle.drawing.specs.Reduction.{zeros, Reducing}

@@ -1,7 +1,7 @@
-use Rattle.std.proofs.Common.{◌≡◌, ℕ, ◌/◌, ◌≤◌, Bool, List, ◌∷◌, length, Option, refl, ap, ◌∙◌, subst, arith}
+use Rattle.std.proofs.Common.{ℕ, ◌/◌, Bool, List, ◌∷◌, length, Option, refl, ap, ◌∙◌, subst, arith}
 use Rattle.std.proofs.lemmas.Bool.{both_ways}
 use Rattle.structure.specs.Problem.{Member}
-use Rattle.queue.specs.Waiting.{waits, capacity}
+use Rattle.queue.specs.Waiting.{waits}
 use Rattle.drawing.specs.Flags.{flagged}
 use Rattle.drawing.specs.Lists.{after}
 use Rattle.drawing.specs.Sides.{list_at}

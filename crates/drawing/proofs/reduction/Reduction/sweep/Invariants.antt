@@ -1,4 +1,4 @@
-use Rattle.std.proofs.Common.{◌≡◌, ◌+◌, ◌≤◌, ◌∷◌, length}
+use Rattle.std.proofs.Common.{◌+◌, ◌≤◌, ◌∷◌, length}
 use Rattle.structure.specs.Problem.{Member}
 use Rattle.queue.specs.Waiting.{waits}
 use Rattle.drawing.specs.Flags.{flagged}
