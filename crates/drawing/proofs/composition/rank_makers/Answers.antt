@@ -9,12 +9,15 @@ use Rattle.drawing.specs.Network.{taken_down}
 use Rattle.drawing.specs.Composition.{Ranked}
 use Rattle.drawing.proofs.Asking.{asked_same}
 use Rattle.drawing.proofs.Walks.{At, place_some}
-use Rattle.drawing.proofs.Makers.{Walking, needed_some, walk_starts, walk_passes, walk_ranks, walk_ends}
+use Rattle.drawing.proofs.Makers.{Walking, needed_some, needed_known, walk_passes, walk_ranks, walk_ends}
 use Rattle.drawing.proofs.composition.rank_makers.Goals as goal
 use Rattle.drawing.proofs.composition.rank_makers.Goals.{then-live-unit+then-ranks-unit-eq0, else-live-unit, else-live-unit-via-then-live-unit+else-ranks-unit-eq0, else-live-unit-via-else-live-unit}
 
-pub loop-next-init : goal.loop-next-init
-loop-next-init c = walk_starts c.args.network.now c.args.live.now c.requires.spreading c.last_place-next.ensures
+pub last_place-next-requires : goal.last_place-next-requires
+last_place-next-requires c =
+    let n = c.args.network.now in
+    let s = c.requires.spreading in
+    record { some = needed_some n c.args.live.now s; known = needed_known n c.args.live.now s }
 
 pub place_before-next-requires-clause-some : goal.place_before-next-requires-clause-some
 place_before-next-requires-clause-some c =
@@ -22,9 +25,6 @@ place_before-next-requires-clause-some c =
     let x = c.args.need.material in
     let w = c.loop-next.invariant in
     place_some n.outputs x (needed_some n c.args.live.now w.spreading) c.in-Some.place c.owner-unit.result c.owner-unit.ensures (subst (λ (o : Option ℕ). At n.outputs x (after o)) c.in-Some.is w.at)
-
-pub loop-next-smaller : goal.loop-next-smaller
-loop-next-smaller c = omega (arith, c.place_before-next.ensures.below, ap after c.in-Some.is)
 
 pub loop-next-preserved : goal.loop-next-preserved
 loop-next-preserved c =

@@ -1,5 +1,4 @@
-use Rattle.std.proofs.Common.{Bool, List, length, ap, subst, arith}
-use Rattle.std.proofs.lemmas.List.Sums.{count_by-le-length}
+use Rattle.std.proofs.Common.{List, length, ap, subst, arith}
 use Rattle.drawing.specs.declared.composition.Need.{Need}
 use Rattle.drawing.specs.Flags.{flagged}
 use Rattle.drawing.specs.Network.{taken_down}
@@ -18,10 +17,6 @@ rank_makers-requires c =
       spreading = spreading;
       room = omega (arith, ap length oldest);
     }
-
-pub loop-need-smaller : goal.loop-need-smaller
-loop-need-smaller c =
-    omega (arith, c.rank_makers.ensures.equally, c.loop-need.needs.long, c.rank_makers.new.needs.long, ap length c.in-Some.ensures.told.oldest, count_by-le-length (λ (b : Bool). b) c.rank_makers.new.needs.asked, count_by-le-length (λ (b : Bool). b) c.loop-need.needs.asked)
 
 pub returns : goal.returns
 returns c =

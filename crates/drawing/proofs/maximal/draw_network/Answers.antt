@@ -1,14 +1,8 @@
-use Rattle.std.proofs.lemmas.Result.{err_from_is_err_and}
 use Rattle.std.proofs.lemmas.Bool.{both_ways}
 use Rattle.drawing.specs.Flags.{flagged}
 use Rattle.drawing.specs.Network.{taken_down}
-use Rattle.drawing.proofs.Deciding.{refused_early, ranked_stand, refused_impossible, accepted}
+use Rattle.drawing.proofs.Deciding.{ranked_stand, refused_impossible, accepted}
 use Rattle.drawing.proofs.maximal.draw_network.Goals as goal
-
-pub returns-in_err-ready : goal.returns-in_err-ready
-returns-in_err-ready c =
-    let p = err_from_is_err_and c.from_residual.result c.from_residual.ensures.1 in
-    rw (p.1, p.2) (refused_early (taken_down c.args.network.now) _ c.in_err-ready.ensures)
 
 pub returns-then-not-all_made : goal.returns-then-not-all_made
 returns-then-not-all_made c =

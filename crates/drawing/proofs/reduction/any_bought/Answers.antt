@@ -1,4 +1,4 @@
-use Rattle.std.proofs.Common.{◌≡◌, false, get_or, sym, refl, ap, ◌∙◌, arith, below_more}
+use Rattle.std.proofs.Common.{get_or, sym, refl, ap, ◌∙◌, arith}
 use Rattle.std.proofs.lemmas.Bool.{false≢true, both_ways}
 use Rattle.drawing.specs.Flags.{flagged}
 use Rattle.drawing.proofs.Members.{names_place, place_names}
@@ -9,9 +9,6 @@ returns-then-bought-x c =
     let entries = c.args.entries.now in
     let x = get_or entries c.loop-x.x-index 0 in
     ((λ _. (x, place_names x entries c.loop-x.x-index (omega arith) refl, c.if-bought-x.true)), (λ _. refl))
-
-pub loop-x-preserved : goal.loop-x-preserved
-loop-x-preserved c = below_more (λ k. flagged c.args.bought.now (get_or c.args.entries.now k 0) ≡ false) _ c.loop-x.invariant c.if-bought-x.false
 
 pub returns : goal.returns
 returns c = (

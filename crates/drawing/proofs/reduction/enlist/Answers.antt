@@ -1,7 +1,6 @@
-use Rattle.std.proofs.Common.{◌≡◌, ℕ, ◌+◌, List, replicate, subst, arith}
+use Rattle.std.proofs.Common.{ℕ, List, replicate, arith}
 use Rattle.std.proofs.lemmas.List.{length-replicate}
 use Rattle.drawing.specs.Network.{taken_down}
-use Rattle.drawing.specs.Reduction.{Enlisted}
 use Rattle.drawing.proofs.Pushing.{all_same}
 use Rattle.drawing.proofs.Enlisting.{enlisted_none}
 use Rattle.drawing.proofs.reduction.enlist.Goals as goal
@@ -11,8 +10,3 @@ loop-unit-init c =
     let makers : List ℕ = replicate 1025 0 in
     let none = c.no_flags.ensures in
     (enlisted_none (taken_down c.args.network.now) c.args.network.now.bounded c.no_flags.result makers none.long (length-replicate {A = ℕ} 1025 0) none.each (λ x. all_same {X = ℕ} 1025 x 0), omega arith)
-
-pub returns : goal.returns
-returns c =
-    let e : c.loop-unit.unit ≡ c.args.network.now.units + 1 = omega arith in
-    subst (Enlisted (taken_down c.args.network.now) c.loop-unit.reduced.live c.loop-unit.reduced.makers) e c.loop-unit.invariant.0

@@ -1,5 +1,4 @@
-use Rattle.std.proofs.Common.{ℕ, ◌+◌, true, List, get_or, sym, ap, ◌∙◌, subst, arith}
-use Rattle.std.proofs.lemmas.List.{length-set}
+use Rattle.std.proofs.Common.{ℕ, ◌+◌, List, get_or, sym, ap, ◌∙◌, subst, arith}
 use Rattle.std.proofs.lemmas.Bool.{both_ways}
 use Rattle.drawing.specs.Flags.{flagged}
 use Rattle.drawing.specs.Network.{taken_down}
@@ -20,9 +19,6 @@ count_entries-requires c =
       few = c.list-outputs.ensures.few;
       low = λ x. omega (arith, t.counted x, arcs_few (taken_down n) x (flagged c.args.reduced.now.live) c.args.unit (list_few n.outputs));
     }
-
-pub invariant_of-reduced : goal.invariant_of-reduced
-invariant_of-reduced c = record { live_long = length-set c.args.reduced.now.live c.args.unit true ∙ c.args.reduced.now.live_long; makers_long = omega (arith, c.count_entries.auto.makers, c.args.reduced.now.makers_long) }
 
 pub returns-then-not-any_bought : goal.returns-then-not-any_bought
 returns-then-not-any_bought c =

@@ -1,15 +1,12 @@
 -- Each turn puts the next entry at the end.
-use Rattle.std.proofs.Common.{◌≡◌, ℕ, ◌+◌, ◌-◌, List, [], ◌∷◌, ◌++◌, length, take, sym, refl, ap, ◌∙◌, subst, arith}
+use Rattle.std.proofs.Common.{◌≡◌, ℕ, ◌+◌, ◌-◌, List, [], ◌∷◌, ◌++◌, length, take, sym, ap, ◌∙◌, subst, arith}
 use Rattle.std.proofs.lemmas.List.{length-take, take_more, take_all}
 use Rattle.drawing.specs.Lists.{with_list}
 use Rattle.drawing.specs.Sides.{list_at, Holds}
 use Rattle.drawing.specs.TakingDown.{list_told}
 use Rattle.drawing.proofs.Telling.{asked_again, listed, entry_known, entry_here}
-use Rattle.drawing.proofs.TakingDown.{list_own, list_other, list_first, list_more}
+use Rattle.drawing.proofs.TakingDown.{list_own, list_other, list_more}
 use Rattle.drawing.proofs.takedown.read_list.Goals as goal
-
-pub loop-place-init : goal.loop-place-init
-loop-place-init g c = (refl, list_first c.args.side.now c.args.unit (c.requires.last c.args.unit (omega arith)))
 
 pub push-requires : goal.push-requires
 push-requires g c =

@@ -1,21 +1,13 @@
 -- Each turn reads the list of the next unit, where it stands.
-use Rattle.std.proofs.Common.{◌≡◌, ℕ, ◌+◌, [], List, sym, refl, ap, ◌∙◌, subst, inl, inr, arith}
+use Rattle.std.proofs.Common.{◌≡◌, ℕ, ◌+◌, [], List, sym, ap, ◌∙◌, subst, inr, arith}
 use Rattle.drawing.specs.declared.lists.SideLists.{SideLists}
 use Rattle.drawing.specs.Sides.{Holds}
 use Rattle.drawing.specs.TakingDown.{list_in, list_told}
 use Rattle.drawing.proofs.Telling.{no_list, idle_list}
-use Rattle.drawing.proofs.TakingDown.{below, lists_none, lists_same, lists_more, lists_all, lists_past}
+use Rattle.drawing.proofs.TakingDown.{below, lists_same, lists_more, lists_all, lists_past}
 use Rattle.drawing.proofs.takedown.read_lists.Given as given
 use Rattle.drawing.proofs.takedown.read_lists.Goals as goal
 use Rattle.drawing.proofs.takedown.read_lists.Goals.{Joined-standing-unit, then-standing-unit, else-standing-unit}
-
-pub loop-unit-init : goal.loop-unit-init
-loop-unit-init g c =
-    let m = g.B.Book.meaning c.args.book.now in
-    (refl, lists_none c.args.lists.now (λ u. list_told c.args.direction u m) c.requires.none (no_list m (list_in c.args.direction) 0 (inl refl)))
-
-pub bounds-standing-unit : goal.bounds-standing-unit
-bounds-standing-unit g c = omega (arith, (g.B.Book.laws.well_formed c.args.book.now).few_units)
 
 pub read_list-requires : goal.read_list-requires
 read_list-requires g c =

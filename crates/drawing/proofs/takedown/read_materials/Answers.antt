@@ -19,12 +19,6 @@ loop-material-init g c =
       flags_none c.args.bought.now p.bought c.requires.none_bought (no_flag 0 (material_count m) (material_at m 0).bought (inl refl)),
     )
 
-pub bounds-wanted-place : goal.bounds-wanted-place
-bounds-wanted-place g c = omega (arith, (g.B.Book.laws.well_formed c.args.book.now).few_materials)
-
-pub bounds-bought-place : goal.bounds-bought-place
-bounds-bought-place g c = omega (arith, (g.B.Book.laws.well_formed c.args.book.now).few_materials)
-
 -- after a turn, one material more is read
 turn : (g : given.Over) (c : After-unwrap_or-in-loop-material g) →
     let p = problem (g.B.Book.meaning c.args.book.now) in

@@ -1,23 +1,15 @@
 -- Each turn sets the flag of the next unit.
-use Rattle.std.proofs.Common.{◌≡◌, ◌+◌, ◌≤◌, false, set, refl, ◌∙◌, inl, inr, arith}
+use Rattle.std.proofs.Common.{◌≡◌, ◌+◌, ◌≤◌, false, set, ◌∙◌, inr, arith}
 use Rattle.book.specs.Meaning.{unit_count}
 use Rattle.book.specs.Declined.{state_at, is_standing}
 use Rattle.book.specs.Asked.{stands_at}
 use Rattle.structure.specs.Problem.{problem}
 use Rattle.drawing.specs.Flags.{Flags}
 use Rattle.drawing.proofs.Telling.{flag_again, no_flag}
-use Rattle.drawing.proofs.TakingDown.{below, flags_none, flags_more, flags_all}
+use Rattle.drawing.proofs.TakingDown.{below, flags_more, flags_all}
 use Rattle.drawing.proofs.takedown.read_standing.Given as given
 use Rattle.drawing.proofs.takedown.read_standing.Goals as goal
 use Rattle.drawing.proofs.takedown.read_standing.Goals.{After-unwrap_or}
-
-pub loop-unit-init : goal.loop-unit-init
-loop-unit-init g c =
-    let m = g.B.Book.meaning c.args.book.now in
-    (refl, flags_none c.no_flags-standing.result (problem m).standing c.no_flags-standing.ensures (no_flag 0 (unit_count m) (is_standing (state_at m 0)) (inl refl)))
-
-pub bounds-standing-unit : goal.bounds-standing-unit
-bounds-standing-unit g c = omega (arith, (g.B.Book.laws.well_formed c.args.book.now).few_units)
 
 -- after a turn, one unit more is read
 turn : (g : given.Over) (c : After-unwrap_or g) →
@@ -30,9 +22,6 @@ turn g c =
     let before = c.loop-unit.invariant.0 in
     let stands = flag_again (λ b. stands_at k (g.B.Book.meaning b)) c.unwrap_or.ensures c.stands.ensures.answer before in
     (c.stands.ensures.same ∙ before, flags_more c.loop-unit.standing p.standing k c.unwrap_or.result few c.loop-unit.invariant.1 stands)
-
-pub loop-unit-preserved : goal.loop-unit-preserved
-loop-unit-preserved g c = turn g (goal.at.loop-unit-preserved g c).After-unwrap_or
 
 pub returns : goal.returns
 returns g c =

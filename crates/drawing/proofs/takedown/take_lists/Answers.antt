@@ -1,5 +1,5 @@
 -- Both sides are read of the same book, which has not changed.
-use Rattle.std.proofs.Common.{sym, ◌∙◌, subst}
+use Rattle.std.proofs.Common.{sym, subst}
 use Rattle.structure.specs.Problem.{Bounded}
 use Rattle.structure.proofs.Bounds.{problem_bounded}
 use Rattle.drawing.specs.declared.takedown.Direction.TheVariants.{Made}
@@ -32,6 +32,3 @@ invariant_of-network g c =
       few_units = n.few_units;
       bounded = subst Bounded (sym (problem_seen (read g c))) (problem_bounded (g.B.Book.meaning c.args.book.now) (g.B.Book.laws.well_formed c.args.book.now));
     }
-
-pub returns : goal.returns
-returns g c = record { seen = problem_seen (read g (goal.at.returns g c).After-read_lists-2); same = c.read_lists-2.ensures.same ∙ c.read_lists.ensures.same }

@@ -5,9 +5,6 @@ use Rattle.drawing.proofs.Entries.{taken_kept, taken_here, taken_cases}
 use Rattle.drawing.proofs.Asking.{asked_same, asked_then}
 use Rattle.drawing.proofs.composition.Needs.ask_each.Goals as goal
 
-pub ask-requires : goal.ask-requires
-ask-requires c = c.requires c.loop-x.x-index
-
 pub loop-x-preserved : goal.loop-x-preserved
 loop-x-preserved c =
     let xs = c.args.materials.now in

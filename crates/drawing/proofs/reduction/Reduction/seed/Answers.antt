@@ -13,10 +13,6 @@ loop-material-init c =
     let makers = c.args.self.now.reduced.makers in
     (subst (λ (q : List ℕ). Seeded p makers q 1) (sym c.requires) (seeded_none p makers), refl, omega arith)
 
-pub seed_material-requires-clause-before : goal.seed_material-requires-clause-before
-seed_material-requires-clause-before c =
-    subst (λ (r : Reduced). Seeded (taken_down c.args.network.now) r.makers (waits c.loop-material.self.waiting) c.loop-material.material) (sym c.loop-material.invariant.1) c.loop-material.invariant.0
-
 -- after a turn, one material more is seeded
 turn : (c : After-seed_material) →
     Seeded (taken_down c.args.network.now) c.args.self.now.reduced.makers (waits c.seed_material.new.self.waiting) (c.loop-material.material + 1)
@@ -25,9 +21,6 @@ turn c = (
   subst (λ (r : Reduced). Seeded (taken_down c.args.network.now) r.makers (waits c.seed_material.new.self.waiting) (c.loop-material.material + 1)) c.loop-material.invariant.1 c.seed_material.ensures.after,
   c.seed_material.ensures.same ∙ c.loop-material.invariant.1,
 )
-
-pub loop-material-preserved : goal.loop-material-preserved
-loop-material-preserved c = let (seeded, same) = turn (goal.at.loop-material-preserved c).After-seed_material in (seeded, same, omega arith)
 
 pub returns : goal.returns
 returns c =

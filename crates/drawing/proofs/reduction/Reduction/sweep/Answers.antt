@@ -45,9 +45,6 @@ place_before-next-requires-clause-some c =
     let m = c.args.material in
     place_some n.inputs m (taken_up c.loop-next.invariant.0).some c.in-Some.place c.owner-unit.result c.owner-unit.ensures (subst (λ (o : Option ℕ). At n.inputs m (after o)) c.in-Some.is c.loop-next.invariant.2)
 
-pub loop-next-smaller : goal.loop-next-smaller
-loop-next-smaller c = omega (arith, c.place_before-next.ensures.below, ap after c.in-Some.is)
-
 pub loop-next-preserved : goal.loop-next-preserved
 loop-next-preserved c =
     let n = c.args.network.now in
