@@ -5,11 +5,11 @@ use Rattle.std.proofs.lemmas.List.{get_or_past}
 use Rattle.std.proofs.lemmas.Bool.{leb-true, le-leb, lt-leb, and_from, and_left, and_right, and_parts, cond-true, cond-false, cond_both, cases_lt}
 use Rattle.book.specs.Meaning.{Fitted, UnitState, free, standing, withheld, Meaning, material_count, unit_count, Listed, StateWithin, WellFormed}
 use Rattle.book.specs.Declined.{inside, state_at, is_standing}
-use Rattle.book.specs.Asked.{where_inside, told_of, entry_in, fitted_at, stands_at}
+use Rattle.book.specs.Asked.{list_on, where_inside, told_of, entry_in, fitted_at, stands_at}
 use Rattle.structure.specs.Problem.{list_of}
-use Rattle.drawing.specs.declared.takedown.Direction.{Direction}
-use Rattle.drawing.specs.declared.takedown.Direction.TheVariants.{Taken, Made}
-use Rattle.drawing.specs.TakingDown.{list_in, list_told}
+use Rattle.book.specs.declared.books.Side.{Side}
+use Rattle.book.specs.declared.books.Side.TheVariants.{Inputs, Outputs}
+use Rattle.drawing.specs.TakingDown.{list_told}
 
 -- what a book has answered, it answers where it has not changed
 pub asked_again : {B X : Type 0} (answer : B → X) {a b : B} {r : X} → r ≡ answer a → a ≡ b → r ≡ answer b
@@ -69,23 +69,23 @@ entry_told side place (Some f) l =
     (cases_lt (length (side f)) place)
 
 -- so an answer to the question of direction e tells the entry of direction d, where they are the same
-pub entry_answered : (d e : Direction) (u k x : ℕ) (m : Meaning) (o r : Option ℕ) → 1 ≤ k → d ≡ e → x ≡ unwrap_or o 0 → o ≡ r → r ≡ entry_in (list_in e) k (fitted_at u m) → x ≡ get_or (list_told d u m) (k - 1) 0
+pub entry_answered : (d e : Side) (u k x : ℕ) (m : Meaning) (o r : Option ℕ) → 1 ≤ k → d ≡ e → x ≡ unwrap_or o 0 → o ≡ r → r ≡ entry_in (list_on e) k (fitted_at u m) → x ≡ get_or (list_told d u m) (k - 1) 0
 entry_answered d e u k x m o r l same read kept told =
-    read ∙ (ap (λ o. unwrap_or o 0) (kept ∙ told) ∙ (entry_told (list_in e) k (fitted_at u m) l ∙ ap (λ (f : Direction). get_or (list_told f u m) (k - 1) 0) (sym same)))
+    read ∙ (ap (λ o. unwrap_or o 0) (kept ∙ told) ∙ (entry_told (list_on e) k (fitted_at u m) l ∙ ap (λ (f : Side). get_or (list_told f u m) (k - 1) 0) (sym same)))
 
 -- a list that is told has at most eight entries, each a material of the book
 none_listed : (l : ℕ) → Listed l []
 none_listed l = record { few = omega arith; known = tt }
 
-state_listed : (l : ℕ) (d : Direction) (s : UnitState) → StateWithin l s → Listed l (list_of (list_in d) (told_of s))
+state_listed : (l : ℕ) (d : Side) (s : UnitState) → StateWithin l s → Listed l (list_of (list_on d) (told_of s))
 state_listed l d free w = none_listed l
-state_listed l Taken (standing f) w = w.inputs
-state_listed l Made (standing f) w = w.outputs
+state_listed l Inputs (standing f) w = w.inputs
+state_listed l Outputs (standing f) w = w.outputs
 state_listed l d (withheld f) w = none_listed l
 
-pub listed : (m : Meaning) → WellFormed m → (d : Direction) (u : ℕ) → Listed (material_count m) (list_told d u m)
+pub listed : (m : Meaning) → WellFormed m → (d : Side) (u : ℕ) → Listed (material_count m) (list_told d u m)
 listed m well d u =
-    cond_both (inside u (unit_count m)) (told_of (state_at m u)) None (λ o. Listed (material_count m) (list_of (list_in d) o))
+    cond_both (inside u (unit_count m)) (told_of (state_at m u)) None (λ o. Listed (material_count m) (list_of (list_on d) o))
     (λ i.
     let both = and_parts (leb 1 u) (leb u (unit_count m)) i in
     let low = leb-true 1 u both.0 in
@@ -94,11 +94,11 @@ listed m well d u =
     state_listed (material_count m) d (state_at m u) (All-get_or (StateWithin (material_count m)) m.units (u - 1) free here well.lists))
     (λ i. none_listed (material_count m))
 
-pub entry_known : (m : Meaning) → WellFormed m → (d : Direction) (u k : ℕ) → k < length (list_told d u m) → (1 ≤ get_or (list_told d u m) k 0) × (get_or (list_told d u m) k 0 ≤ 1024)
+pub entry_known : (m : Meaning) → WellFormed m → (d : Side) (u k : ℕ) → k < length (list_told d u m) → (1 ≤ get_or (list_told d u m) k 0) × (get_or (list_told d u m) k 0 ≤ 1024)
 entry_known m well d u k l =
     let known = All-get_or (λ x. (1 ≤ x) × (x ≤ material_count m)) (list_told d u m) k 0 l (listed m well d u).known in
     (known.0, omega (arith, known.1, well.few_materials))
 
 -- the entry at a place of a book that means the same
-pub entry_here : (d : Direction) (u k x : ℕ) (m n : Meaning) → x ≡ get_or (list_told d u m) k 0 → m ≡ n → x ≡ get_or (list_told d u n) k 0
+pub entry_here : (d : Side) (u k x : ℕ) (m n : Meaning) → x ≡ get_or (list_told d u m) k 0 → m ≡ n → x ≡ get_or (list_told d u n) k 0
 entry_here d u k x m n told same = told ∙ ap (λ (w : Meaning). get_or (list_told d u w) k 0) same

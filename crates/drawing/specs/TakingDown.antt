@@ -1,22 +1,16 @@
 -- What is read of a book while it is taken down.
 use Rattle.std.specs.Prelude.{◌≡◌, ℕ, List, []}
-use Rattle.book.specs.Meaning.{Fitted, Meaning, material_count, unit_count}
-use Rattle.book.specs.Asked.{fitted_at}
+use Rattle.book.specs.Meaning.{Meaning, material_count, unit_count}
+use Rattle.book.specs.declared.books.Side.{Side}
+use Rattle.book.specs.Asked.{list_on, fitted_at}
 use Rattle.structure.specs.Problem.{list_of, problem}
 use Rattle.drawing.specs.declared.network.Network.{Network}
-use Rattle.drawing.specs.declared.takedown.Direction.{Direction}
-use Rattle.drawing.specs.declared.takedown.Direction.TheVariants.{Taken, Made}
 use Rattle.drawing.specs.Flags.{Flags}
 use Rattle.drawing.specs.Sides.{Holds}
 
--- the list that is meant, of the two that a unit is fitted with
-abbrev pub list_in : Direction → Fitted → List ℕ
-list_in Taken f = f.inputs
-list_in Made f = f.outputs
-
--- what a book tells of it; of a number that does not stand nothing is told
-abbrev pub list_told : Direction → ℕ → Meaning → List ℕ
-list_told d u m = list_of (list_in d) (fitted_at u m)
+-- the list that a book tells of a number on a side; of a number that does not stand nothing is told
+abbrev pub list_told : Side → ℕ → Meaning → List ℕ
+list_told side u m = list_of (list_on side) (fitted_at u m)
 
 -- the network n has the numbers of a book that means m, and no list yet
 pub record NumbersTold (m : Meaning) (n : Network) : Type 0 where

@@ -11,14 +11,7 @@ ghost use Rattle.drawing.specs.TakingDown.{NumbersTold, list_told};
 use crate::flags::{NUMBERS, no_flags};
 use crate::lists::SideLists;
 use crate::network::Network;
-use book::Book;
-
-// Which of a unit's two lists is meant: what it takes, or what it makes.
-#[derive(Clone, Copy)]
-enum Direction {
-    Taken,
-    Made,
-}
+use book::{Book, Side};
 
 // Takes down the numbers of a book: how many there are, which materials are wanted and bought, and which units stand.
 pub(crate) fn take_numbers<B: Book>(book: &mut B) -> Network
@@ -51,14 +44,14 @@ pub(crate) fn take_lists<B: Book>(book: &mut B, network: &mut Network)
     let standing = network.standing;
     read_lists(
         book,
-        Direction::Taken,
+        Side::Inputs,
         units,
         &standing,
         &mut network.inputs,
     );
     read_lists(
         book,
-        Direction::Made,
+        Side::Outputs,
         units,
         &standing,
         &mut network.outputs,
@@ -102,7 +95,7 @@ fn read_standing<B: Book>(book: &mut B, units: u16) -> [bool; NUMBERS]
 // Reads one side of the units that stand. Nothing is read of it yet.
 fn read_lists<B: Book>(
     book: &mut B,
-    direction: Direction,
+    side: Side,
     units: u16,
     standing: &[bool; NUMBERS],
     lists: &mut SideLists,
@@ -110,50 +103,42 @@ fn read_lists<B: Book>(
     requires counted { units ≡ unit_count (B.Book.meaning book.old) }
     requires standing { Flags standing.now (problem (B.Book.meaning book.old)).standing }
     requires none { Holds lists.old (λ _. []) }
-    ensures held { Holds lists.new (λ u. list_told direction u (B.Book.meaning book.old)) }
+    ensures held { Holds lists.new (λ u. list_told side u (B.Book.meaning book.old)) }
     ensures same { book.new ≡ book.old }
 {
     for unit in 1..=units {
         if standing[unit as usize] {
-            read_list(book, direction, unit, lists);
+            read_list(book, side, unit, lists);
         }
     }
 }
 
 // Reads one list of a unit. That unit and those after it have no entry yet.
-fn read_list<B: Book>(book: &mut B, direction: Direction, unit: u16, side: &mut SideLists)
+fn read_list<B: Book>(book: &mut B, side: Side, unit: u16, lists: &mut SideLists)
     requires known { unit ≤ 1024 }
-    requires last { (v : ℕ) → unit ≤ v → list_at side.old v ≡ [] }
-    ensures held { Holds side.new (with_list (list_at side.old) unit (list_told direction unit (B.Book.meaning book.old))) }
+    requires last { (v : ℕ) → unit ≤ v → list_at lists.old v ≡ [] }
+    ensures held { Holds lists.new (with_list (list_at lists.old) unit (list_told side unit (B.Book.meaning book.old))) }
     ensures same { book.new ≡ book.old }
 {
-    let count = entry_count(book, direction, unit);
+    let count = entry_count(book, side, unit);
     for place in 1..=count {
-        side.push(unit, entry(book, direction, unit, place));
+        lists.push(unit, entry(book, side, unit, place));
     }
 }
 
 // How many entries the list of a unit has; none where the unit does not stand.
-fn entry_count<B: Book>(book: &mut B, direction: Direction, unit: u16) -> u16
-    ensures answer { result ≡ length (list_told direction unit (B.Book.meaning book.old)) }
+fn entry_count<B: Book>(book: &mut B, side: Side, unit: u16) -> u16
+    ensures answer { result ≡ length (list_told side unit (B.Book.meaning book.old)) }
     ensures same { book.new ≡ book.old }
 {
-    let told = match direction {
-        Direction::Taken => book.input_count(unit),
-        Direction::Made => book.output_count(unit),
-    };
-    told.unwrap_or(0)
+    book.entry_count(unit, side).unwrap_or(0)
 }
 
 // The entry at a place of a unit's list, from 1; past the end of the list it is 0.
-fn entry<B: Book>(book: &mut B, direction: Direction, unit: u16, place: u16) -> u16
+fn entry<B: Book>(book: &mut B, side: Side, unit: u16, place: u16) -> u16
     requires { 1 ≤ place }
-    ensures answer { result ≡ slice_index (list_told direction unit (B.Book.meaning book.old)) (place - 1) }
+    ensures answer { result ≡ slice_index (list_told side unit (B.Book.meaning book.old)) (place - 1) }
     ensures same { book.new ≡ book.old }
 {
-    let told = match direction {
-        Direction::Taken => book.input(unit, place),
-        Direction::Made => book.output(unit, place),
-    };
-    told.unwrap_or(0)
+    book.entry(unit, side, place).unwrap_or(0)
 }

@@ -7,5 +7,5 @@ use Rattle.drawing.proofs.takedown.read_list.Given as goal
 
 abbrev pub invariant-loop-place : goal.invariant-loop-place
 invariant-loop-place g l =
-    let xs = list_told l.direction l.unit (g.B.Book.meaning l.initial.book) in
-    (l.book ≡ l.initial.book) × Holds l.side (with_list (list_at l.initial.side) l.unit (take (l.place - 1) xs))
+    let xs = list_told l.side l.unit (g.B.Book.meaning l.initial.book) in
+    (l.book ≡ l.initial.book) × Holds l.lists (with_list (list_at l.initial.lists) l.unit (take (l.place - 1) xs))

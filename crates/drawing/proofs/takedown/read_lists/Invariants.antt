@@ -6,4 +6,4 @@ use Rattle.drawing.proofs.TakingDown.{below}
 use Rattle.drawing.proofs.takedown.read_lists.Given as goal
 
 abbrev pub invariant-loop-unit : goal.invariant-loop-unit
-invariant-loop-unit g l = (l.book ≡ l.initial.book) × Holds l.lists (below l.unit [] (λ u. list_told l.direction u (g.B.Book.meaning l.initial.book)))
+invariant-loop-unit g l = (l.book ≡ l.initial.book) × Holds l.lists (below l.unit [] (λ u. list_told l.side u (g.B.Book.meaning l.initial.book)))

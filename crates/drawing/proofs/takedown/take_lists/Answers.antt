@@ -2,7 +2,7 @@
 use Rattle.std.proofs.Common.{sym, subst}
 use Rattle.structure.specs.Problem.{Bounded}
 use Rattle.structure.proofs.Bounds.{problem_bounded}
-use Rattle.drawing.specs.declared.takedown.Direction.TheVariants.{Made}
+use Rattle.book.specs.declared.books.Side.TheVariants.{Outputs}
 use Rattle.drawing.specs.Sides.{Holds}
 use Rattle.drawing.specs.TakingDown.{list_told}
 use Rattle.drawing.proofs.TakingDown.{Read, problem_seen}
@@ -21,7 +21,7 @@ read g c = record {
   bought_read = c.requires.bought;
   standing_read = c.requires.standing;
   inputs_read = c.read_lists.ensures.held;
-  outputs_read = subst (λ b. Holds c.read_lists-2.new.lists (λ u. list_told Made u (g.B.Book.meaning b))) c.read_lists.ensures.same c.read_lists-2.ensures.held;
+  outputs_read = subst (λ b. Holds c.read_lists-2.new.lists (λ u. list_told Outputs u (g.B.Book.meaning b))) c.read_lists.ensures.same c.read_lists-2.ensures.held;
 }
 
 pub invariant_of-network : goal.invariant_of-network
