@@ -1,19 +1,19 @@
 -- What a page book answers, by the letters and the lists of the lines that the question is about. Assumes nothing.
-use Rattle.std.proofs.Common.{◌≡◌, ℕ, ◌+◌, ◌-◌, ◌<◌, ◌≤◌, Bool, true, false, cond, ◌&&◌, eqb, leb, List, [], ◌∷◌, length, get_or, Some, None, Option, sym, refl, ap, ◌∙◌, inl, inr, arith}
+use Rattle.std.proofs.Common.{◌≡◌, ℕ, ◌+◌, ◌-◌, ◌<◌, ◌≤◌, Bool, true, false, cond, ◌&&◌, eqb, leb, List, [], ◌∷◌, length, get_or, Some, None, Option, MatchOption, sym, refl, ap, ◌∙◌, subst, inl, inr, arith}
 use Rattle.std.proofs.lemmas.List.FromFn.{get_or-map-range_with_len}
 use Rattle.std.proofs.lemmas.Bool.{leb-true, lt-leb, and_parts, and_right, cond-true, cond-false}
-use Rattle.book.specs.Meaning.{Material, Fitted, free, standing, withheld, material_count, unit_count}
+use Rattle.book.specs.Meaning.{UnitState, Fitted, free, standing, withheld, material_count, unit_count}
 use Rattle.book.specs.Declined.{inside, state_at, is_standing}
-use Rattle.book.specs.Asked.{where_inside, plain, material_at, stands_at, told_of, fitted_at, count_in, entry_in}
-use Rattle.page.specs.Layout.{list_width, most, counts, material, unit, line_length, line_start, line_bytes, page_length}
-use Rattle.pagebook.specs.declared.questions.Side.{Side}
-use Rattle.pagebook.specs.declared.questions.Side.TheVariants.{Inputs, Outputs}
-use Rattle.pagebook.specs.declared.questions.UnitLine.{UnitLine}
-use Rattle.pagebook.specs.Reading.{list_in, material_in, state_by, unit_in, first_count, second_count, room, materials_on, units_on, material_on, unit_on, of_page}
+use Rattle.book.specs.Asked.{where_inside, plain, material_at, told_of, fitted_at}
+use Rattle.page.specs.Layout.{most, counts, material, unit, line_length, line_start, line_bytes, page_length}
+use Rattle.book.specs.declared.books.Class.{Class}
+use Rattle.book.specs.declared.books.State.{State}
+use Rattle.pagebook.specs.declared.lines.UnitLine.{UnitLine}
+use Rattle.pagebook.specs.Reading.{material_in, state_by, unit_in, first_count, second_count, room, materials_on, units_on, material_on, unit_on, of_page}
 use Rattle.pagebook.specs.PageBooks.{meaning_of}
 use Rattle.pagebook.specs.PageLaws.{room_there, count_materials, count_units}
-use Rattle.pagebook.specs.Places.{line_of, lists_in, list_from, side_of, side_column}
-use Rattle.pagebook.proofs.Parts.{first_of_part, part_of_part}
+use Rattle.pagebook.specs.Places.{kind_of, class_at, line_of, lists_in}
+use Rattle.pagebook.proofs.Parts.{first_of_part}
 
 -- the test of the two numbers that were read from the first line is the test of the room for them
 pub room_test : (bytes : List ℕ) (l n : ℕ) (test : Bool) → l ≡ first_count bytes → n ≡ second_count bytes → test ≡ (leb l most && (leb n most && leb (page_length l n) (length bytes))) → room bytes ≡ test
@@ -81,72 +81,62 @@ unit_there true bytes k e =
     }
 unit_there false bytes k e = absurd (omega (arith, inside_parts k 0 e))
 
--- whether a unit stands, and what a standing unit is fitted with, by the letter of its line
-stands_by : (letter : ℕ) (f : Fitted) → is_standing (state_by letter f) ≡ eqb letter 83
-stands_by letter f = by (eqb letter 83) (eqb letter 87) where
-  by : (s w : Bool) → is_standing (cond s (standing f) (cond w (withheld f) free)) ≡ s
-  by true w = refl
-  by false true = refl
-  by false false = refl
+-- a class is told by its two parts, and a line by its three
+same_class : (a b a' b' : Bool) → a ≡ a' → b ≡ b' → ◌≡◌ {A = Class} (record { wanted = a; bought = b }) (record { wanted = a'; bought = b' })
+same_class a b a' b' p q = cc
 
-told_by : (letter : ℕ) (f : Fitted) → told_of (state_by letter f) ≡ cond (eqb letter 83) (Some f) None
-told_by letter f = by (eqb letter 83) (eqb letter 87) where
-  by : (s w : Bool) → told_of (cond s (standing f) (cond w (withheld f) free)) ≡ cond s (Some f) None
-  by true w = refl
-  by false true = refl
-  by false false = refl
+same_line : (i i' : ℕ) (s s' : State) (l l' : ℕ) → i ≡ i' → s ≡ s' → l ≡ l' → ◌≡◌ {A = UnitLine} (record { start = i; state = s; materials = l }) (record { start = i'; state = s'; materials = l' })
+same_line i i' s s' l l' p q r = cc
 
--- what is asked of a material whose line was found is answered by the letter there
-pub material_answer : {X : Type 0} (f : Material → X) (is_open : Bool) (bytes : List ℕ) (k start : ℕ)
+-- a material whose line was found has the class that the letter there tells
+pub class_answer : (is_open : Bool) (bytes : List ℕ) (k start : ℕ) (c : Class)
     → Some start ≡ where_inside k (material_count (meaning_of is_open bytes)) (line_start 0 (material k))
-    → where_inside k (material_count (meaning_of is_open bytes)) (f (material_at (meaning_of is_open bytes) k)) ≡ Some (f (material_in (get_or bytes start 0 ∷ [])))
-material_answer f is_open bytes k start e =
+    → c.wanted ≡ (material_in (get_or bytes start 0 ∷ [])).wanted
+    → c.bought ≡ (material_in (get_or bytes start 0 ∷ [])).bought
+    → Some c ≡ where_inside k (material_count (meaning_of is_open bytes)) (class_at (meaning_of is_open bytes) k)
+class_answer is_open bytes k start c e wanted bought =
     let m = meaning_of is_open bytes in
     let found = found_inside k (material_count m) (line_start 0 (material k)) start e in
     let there = material_there is_open bytes k found.0 in
-    cond-true (inside k (material_count m)) (Some (f (material_at m k))) None found.0
-    ∙ ap (λ x. Some (f x)) (there.told ∙ ap (λ i. material_in (get_or bytes i 0 ∷ [])) (sym found.1))
+    let told : material_at m k ≡ material_in (get_or bytes start 0 ∷ []) = there.told ∙ ap (λ i. material_in (get_or bytes i 0 ∷ [])) (sym found.1) in
+    let same : c ≡ class_at m k = same_class c.wanted c.bought (material_at m k).wanted (material_at m k).bought (wanted ∙ sym (ap (λ x. x.wanted) told)) (bought ∙ sym (ap (λ x. x.bought) told)) in
+    ap Some same ∙ sym (cond-true (inside k (material_count m)) (Some (class_at m k)) None found.0)
 
-module _ (is_open : Bool) (bytes : List ℕ) (k : ℕ) (line : UnitLine) (e : Some line ≡ where_inside k (unit_count (meaning_of is_open bytes)) (line_of (meaning_of is_open bytes) k)) where
-  -- the number is inside the book, and what stands there is told by the line that was found
-  told_in_line : (inside k (unit_count (meaning_of is_open bytes)) ≡ true) × (state_at (meaning_of is_open bytes) k ≡ state_by (get_or bytes line.start 0) (lists_in bytes line))
-  told_in_line =
-      let m = meaning_of is_open bytes in
-      let found = found_inside k (unit_count m) (line_of m k) line e in
-      let there = unit_there is_open bytes k found.0 in
-      (found.0, there.told ∙ ap (λ (x : UnitLine). state_by (get_or bytes x.start 0) (lists_in bytes x)) (sym found.1))
+-- a unit number whose line was found has the state that the letter there tells
+pub line_answer : (is_open : Bool) (bytes : List ℕ) (k start l : ℕ) (s : State)
+    → ◌≡◌ {A = Option (ℕ × ℕ)} (Some (start, l)) (where_inside k (unit_count (meaning_of is_open bytes)) (line_start (material_count (meaning_of is_open bytes)) (unit k), material_count (meaning_of is_open bytes)))
+    → ((f : Fitted) → s ≡ kind_of (state_by (get_or bytes start 0) f))
+    → Some (record { start = start; state = s; materials = l }) ≡ where_inside k (unit_count (meaning_of is_open bytes)) (line_of (meaning_of is_open bytes) k)
+line_answer is_open bytes k start l s e told =
+    let m = meaning_of is_open bytes in
+    let found = found_inside {X = ℕ × ℕ} k (unit_count m) (line_start (material_count m) (unit k), material_count m) (start, l) e in
+    let there = unit_there is_open bytes k found.0 in
+    let place : start ≡ (line_of m k).start = ap (λ (x : ℕ × ℕ). x.0) found.1 in
+    let count : l ≡ material_count m = ap (λ (x : ℕ × ℕ). x.1) found.1 in
+    let state : s ≡ kind_of (state_at m k) = told (lists_in bytes (line_of m k)) ∙ (ap (λ i. kind_of (state_by (get_or bytes i 0) (lists_in bytes (line_of m k)))) place ∙ sym (ap kind_of there.told)) in
+    let same = same_line start (line_of m k).start s (kind_of (state_at m k)) l (material_count m) place state count in
+    ap Some same ∙ sym (cond-true (inside k (unit_count m)) (Some (line_of m k)) None found.0)
 
-  pub stands_answer : stands_at k (meaning_of is_open bytes) ≡ Some (eqb (get_or bytes line.start 0) 83)
-  stands_answer =
-      let m = meaning_of is_open bytes in
-      let there = told_in_line in
-      cond-true (inside k (unit_count m)) (Some (is_standing (state_at m k))) None there.0
-      ∙ ap Some (ap is_standing there.1 ∙ stands_by (get_or bytes line.start 0) (lists_in bytes line))
+-- what stands by a letter stands with the lists that are read with it
+stands_with : (letter : ℕ) (f g : Fitted) → standing g ≡ state_by letter f → g ≡ f
+stands_with letter f g e = by (eqb letter 83) (eqb letter 87) e where
+  by : (s w : Bool) → standing g ≡ cond s (standing f) (cond w (withheld f) free) → g ≡ f
+  by true w e = cc
+  by false true e = cc
+  by false false e = cc
 
-  pub fitted_answer : fitted_at k (meaning_of is_open bytes) ≡ cond (eqb (get_or bytes line.start 0) 83) (Some (lists_in bytes line)) None
-  fitted_answer =
-      let m = meaning_of is_open bytes in
-      let there = told_in_line in
-      cond-true (inside k (unit_count m)) (told_of (state_at m k)) None there.0
-      ∙ (ap told_of there.1 ∙ told_by (get_or bytes line.start 0) (lists_in bytes line))
-
--- a line is told by the place where it begins and the number of its materials
-pub same_line : (start l place count : ℕ) → start ≡ place → l ≡ count → ◌≡◌ {A = UnitLine} (record { start = start; materials = l }) (record { start = place; materials = count })
-same_line start l place count p q = cc
-
--- the list that is read at the column of one of a unit's lists is that list
-pub side_read : (bytes after : List ℕ) (line : UnitLine) (side : Side) (place : ℕ) → after ≡ bytes → place ≡ side_column side → list_from after line.materials (line.start + place) ≡ side_of side (lists_in bytes line)
-side_read bytes after line side place same column =
-    ap (λ (bs : List ℕ). list_from bs line.materials (line.start + place)) same
-    ∙ (ap (λ i. list_from bytes line.materials (line.start + i)) column ∙ sym (by side)) where
-      by : (side : Side) → side_of side (lists_in bytes line) ≡ list_from bytes line.materials (line.start + side_column side)
-      by Inputs = ap (list_in line.materials) (part_of_part bytes line.start (line_length (unit 0)) (side_column Inputs) list_width (omega arith))
-      by Outputs = ap (list_in line.materials) (part_of_part bytes line.start (line_length (unit 0)) (side_column Outputs) list_width (omega arith))
-
--- so what is told of that list is what is told of the standing unit
-module _ (side : Side) (found : Option Fitted) (f : Fitted) (list : List ℕ) (e : found ≡ Some f) (same : list ≡ side_of side f) where
-  pub count_answer : (n : ℕ) → n ≡ length list → Some n ≡ count_in (side_of side) found
-  count_answer n h = ap Some (h ∙ ap length same) ∙ sym (ap (count_in (side_of side)) e)
-
-  pub entry_answer : (place : ℕ) (r : Option ℕ) → r ≡ where_inside place (length list) (get_or list (place - 1) 0) → r ≡ entry_in (side_of side) place found
-  entry_answer place r h = h ∙ (ap (λ (xs : List ℕ). where_inside place (length xs) (get_or xs (place - 1) 0)) same ∙ sym (ap (entry_in (side_of side) place) e))
+-- where a standing unit is looked for, what was found tells its lists, and of any other number there is nothing to tell
+pub standing_answer : (is_open : Bool) (bytes : List ℕ) (k : ℕ) (r : Option UnitLine)
+    → r ≡ cond (inside k (unit_count (meaning_of is_open bytes)) && is_standing (state_at (meaning_of is_open bytes) k)) (Some (line_of (meaning_of is_open bytes) k)) None
+    → MatchOption r (fitted_at k (meaning_of is_open bytes) ≡ None) (λ line. fitted_at k (meaning_of is_open bytes) ≡ Some (lists_in bytes line))
+standing_answer is_open bytes k r e =
+    let m = meaning_of is_open bytes in
+    let line = line_of m k in
+    subst (λ x. MatchOption x (fitted_at k m ≡ None) (λ y. fitted_at k m ≡ Some (lists_in bytes y))) (sym e)
+    (by (inside k (unit_count m)) (state_at m k) line (λ t. (unit_there is_open bytes k t).told))
+  where
+    by : (t : Bool) (s : UnitState) (line : UnitLine) → (t ≡ true → s ≡ state_by (get_or bytes line.start 0) (lists_in bytes line)) → MatchOption (cond (t && is_standing s) (Some line) None) (cond t (told_of s) None ≡ None) (λ y. cond t (told_of s) None ≡ Some (lists_in bytes y))
+    by false s line h = refl
+    by true free line h = refl
+    by true (withheld g) line h = refl
+    by true (standing g) line h = ap Some (stands_with (get_or bytes line.start 0) (lists_in bytes line) g (h refl))

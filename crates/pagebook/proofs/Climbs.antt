@@ -47,7 +47,7 @@ numbers_from bytes c n h =
     cc
 
 -- a field in front of others
-numbers_first : (part rest : List ℕ) (c : ℕ) → length part ≡ number_width → numbers_in (part ++ rest) (suc c) ≡ number_shown part ∷ numbers_in rest c
+pub numbers_first : (part rest : List ℕ) (c : ℕ) → length part ≡ number_width → numbers_in (part ++ rest) (suc c) ≡ number_shown part ∷ numbers_in rest c
 numbers_first part rest c wide =
     let first = take_at part rest number_width wide in
     let others = drop_at part rest number_width wide in

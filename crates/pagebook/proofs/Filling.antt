@@ -2,13 +2,12 @@
 use Rattle.std.proofs.Common.{◌≡◌, ℕ, ◌+◌, ◌-◌, ◌*◌, ◌<◌, ◌≤◌, List, [], ◌∷◌, ◌++◌, length, get_or, take, drop, set, sym, refl, ap, ◌∙◌, arith}
 use Rattle.std.specs.List.{AllByRecursion}
 use Rattle.std.proofs.ByRecursion.{All-get_or, All-take}
-use Rattle.std.proofs.lemmas.List.{append_assoc, append-nil, length-append, length-set, length-take-le, length-drop, length_push, take-append-drop, take_more, drop-drop, drop_all, drop-replicate, set_split}
+use Rattle.std.proofs.lemmas.List.{append_assoc, append-nil, length-append, length-set, length-take-le, length-drop, length_push, take-append-drop, take_more, drop-drop, drop-replicate, set_split}
 use Rattle.book.specs.Meaning.{Fitted}
 use Rattle.columns.specs.Columns.{blanks, column}
 use Rattle.columns.proofs.Laws.{fits_five, length_column}
 use Rattle.page.specs.Layout.{number_width, list_fields}
 use Rattle.page.specs.Format.{number_fields, list_bytes}
-use Rattle.page.proofs.Lists.{length_list_bytes}
 use Rattle.pagebook.specs.Writes.{over, refitted}
 use Rattle.pagebook.proofs.Overwritten.{length_over, over_behind, over_before, set_over}
 
@@ -21,14 +20,6 @@ over_inside p q part line bytes whole inside =
     over_behind first (line ++ rest) part q (p + q) (omega arith)
     ∙ (ap (λ (t : List ℕ). first ++ t) (over_before line rest part q inside)
     ∙ ap (λ i. first ++ (over q part line ++ drop (p + i) bytes)) (sym (length_over q part line inside)))
-
--- a line written over one that is as long leaves nothing of it
-pub over_again : (p : ℕ) (line old bytes : List ℕ) → p + length old ≤ length bytes → length line ≡ length old → over p line (over p old bytes) ≡ over p line bytes
-over_again p line old bytes whole same =
-    let none : drop (0 + length line) old ≡ [] = drop_all (0 + length line) old (omega arith) in
-    let here : p + 0 ≡ p = omega arith in
-    ap (λ i. over i line (over p old bytes)) (sym here)
-    ∙ (over_inside p 0 line old bytes whole (omega arith) ∙ ap (λ (t : List ℕ). over p t bytes) (ap (λ (t : List ℕ). line ++ t) none ∙ append-nil line))
 
 -- a part written right behind the first bytes
 over_next : (first rest part left : List ℕ) (p : ℕ) → length first ≡ p → drop (length part) rest ≡ left → over p part (first ++ rest) ≡ first ++ (part ++ left)
@@ -61,34 +52,15 @@ list_push xs x small low room =
         (drop-replicate (length (column number_width x)) (5 * (8 - length xs)) 32 ∙ ap blanks fewer)
         ∙ (sym (append_assoc (number_fields xs) (column number_width x) (blanks left)) ∙ ap (λ (t : List ℕ). t ++ blanks left) (sym (number_fields_push xs x)))
 
--- a list that is written number by number into its fields, which begin at a place of the bytes
-module _ (start : ℕ) (xs bytes : List ℕ) (whole : start + 40 ≤ length bytes) (few : length xs ≤ 8) (small : AllByRecursion (λ x. x < 100000) xs) where
-  -- its first numbers take the fields of a list too
-  length_front : (i : ℕ) → i ≤ length xs → length (list_bytes (take i xs)) ≡ 40
-  length_front i h = length_list_bytes (take i xs) (omega (arith, length-take-le i xs h)) (All-take (λ x. x < 100000) i xs small)
-
-  -- with the next number the fields hold one number more
-  pub list_step : (i : ℕ) → i < length xs → over (start + 5 * i) (column number_width (get_or xs i 0)) (over start (list_bytes (take i xs)) bytes) ≡ over start (list_bytes (take (i + 1) xs)) bytes
-  list_step i h =
-      let x = get_or xs i 0 in
-      let front = take i xs in
-      let count : length front ≡ i = length-take-le i xs (omega arith) in
-      let low = All-get_or (λ y. y < 100000) xs i 0 h small in
-      let wide = length_column number_width x (fits_five x low) in
-      let pushed : over (5 * i) (column number_width x) (list_bytes front) ≡ list_bytes (take (i + 1) xs) =
-      ap (λ n. over (5 * n) (column number_width x) (list_bytes front)) (sym count)
-      ∙ (list_push front x (All-take (λ y. y < 100000) i xs small) low (omega arith) ∙ ap list_bytes (sym (take_more xs i 0 h))) in
-      let long = length_front i (omega arith) in
-      over_inside start (5 * i) (column number_width x) (list_bytes front) bytes (omega arith) (omega arith)
-      ∙ ap (λ (t : List ℕ). over start t bytes) pushed
-
-  -- a list written over blank fields leaves none of the blanks
-  pub list_over_blanks : over start (list_bytes xs) (over start (blanks 40) bytes) ≡ over start (list_bytes xs) bytes
-  list_over_blanks = over_again start (list_bytes xs) (blanks 40) bytes whole (length_list_bytes xs few small)
-
--- blanks written twice are blanks
-pub blanks_again : (start : ℕ) (bytes : List ℕ) → start + 40 ≤ length bytes → over start (blanks 40) (over start (blanks 40) bytes) ≡ over start (blanks 40) bytes
-blanks_again start bytes whole = over_again start (blanks 40) (blanks 40) bytes whole refl
+-- a list that is written number by number: with the next number the fields hold one number more
+pub list_step : (xs : List ℕ) (i : ℕ) → length xs ≤ 8 → AllByRecursion (λ x. x < 100000) xs → i < length xs → over (5 * i) (column number_width (get_or xs i 0)) (list_bytes (take i xs)) ≡ list_bytes (take (i + 1) xs)
+list_step xs i few small h =
+    let x = get_or xs i 0 in
+    let front = take i xs in
+    let count : length front ≡ i = length-take-le i xs (omega arith) in
+    let low = All-get_or (λ y. y < 100000) xs i 0 h small in
+    ap (λ n. over (5 * n) (column number_width x) (list_bytes front)) (sym count)
+    ∙ (list_push front x (All-take (λ y. y < 100000) i xs small) low (omega arith) ∙ ap list_bytes (sym (take_more xs i 0 h)))
 
 -- two lists written into a line behind its number
 lists_over : (letter : ℕ) (t a b : List ℕ) → length t ≡ 86 → length a ≡ 40 → length b ≡ 40 → over 46 b (over 6 a (letter ∷ t)) ≡ letter ∷ (take 5 t ++ (a ++ (b ++ drop 85 t)))

@@ -1,29 +1,22 @@
 -- A unit or a material that a page book has, and what the bytes say of it. Assumes nothing.
-use Rattle.std.proofs.Common.{◌≡◌, ℕ, ◌+◌, ◌-◌, ◌≤◌, Bool, true, false, cond, eqb, ◌⊎◌, List, length, get_or, drop, Some, None, Ok, Err, Option, sym, refl, ap, ◌∙◌, inl, inr, arith}
+use Rattle.std.proofs.Common.{◌≡◌, ℕ, ◌+◌, ◌-◌, ◌≤◌, Bool, true, false, cond, eqb, List, length, get_or, drop, Some, Ok, Err, Option, sym, refl, ap, ◌∙◌, arith}
 use Rattle.std.proofs.lemmas.List.FromFn.{get_or-map-range_with_len}
 use Rattle.std.proofs.lemmas.List.{length-take-le, length-drop}
-use Rattle.std.proofs.lemmas.Bool.{and_parts, and_from, and_right, both_ways, cond-true, cond-false, ne_eqb, cases_eq}
+use Rattle.std.proofs.lemmas.Bool.{and_parts}
 use Rattle.book.specs.declared.Refusal.TheVariants.{NotWithheld}
-use Rattle.book.specs.Meaning.{Fitted, free, standing, withheld, material_count, unit_count}
-use Rattle.book.specs.Declined.{inside, state_at, is_free, is_standing, is_withheld, withheld_at}
+use Rattle.book.specs.declared.books.State.{State}
+use Rattle.book.specs.declared.books.State.TheVariants.{Free, Standing, Withheld}
+use Rattle.book.specs.Meaning.{Fitted, UnitState, free, standing, withheld, material_count, unit_count}
+use Rattle.book.specs.Declined.{inside, state_at, is_withheld, withheld_at}
 use Rattle.book.specs.Asked.{where_inside}
 use Rattle.page.specs.Layout.{Line, material, unit, line_length, line_start, line_bytes, Whole}
-use Rattle.pagebook.specs.declared.questions.UnitLine.{UnitLine}
+use Rattle.pagebook.specs.declared.lines.UnitLine.{UnitLine}
 use Rattle.pagebook.specs.Reading.{state_by, unit_in, materials_on, units_on, unit_on, of_page}
 use Rattle.pagebook.specs.PageBooks.{meaning_of}
 use Rattle.pagebook.specs.PageLaws.{few_materials, count_materials, count_units}
-use Rattle.pagebook.specs.Places.{line_of, lists_in}
+use Rattle.pagebook.specs.Places.{kind_of, line_of, lists_in}
 use Rattle.pagebook.specs.Writes.{withheld_line}
-use Rattle.pagebook.proofs.Answering.{inside_parts, unit_there}
-
--- what a search with a test found, it found where the test was met
-found_where : {X : Type 0} (test : Bool) (x y : X) → Some y ≡ cond test (Some x) None → (test ≡ true) × (y ≡ x)
-found_where true x y e = (refl, cc)
-found_where false x y e = let z : ◌≡◌ {A = ℕ} 0 1 = cc in absurd (omega arith)
-
-found_withheld : (test : Bool) (x y : UnitLine) → Ok y ≡ cond test (Ok x) (Err NotWithheld) → (test ≡ true) × (y ≡ x)
-found_withheld true x y e = (refl, cc)
-found_withheld false x y e = let z : ◌≡◌ {A = ℕ} 0 1 = cc in absurd (omega arith)
+use Rattle.pagebook.proofs.Answering.{inside_parts, found_inside, unit_there}
 
 -- no number is inside a count of none
 pub none_inside : (k : ℕ) → inside k 0 ≡ true → ⊥
@@ -50,89 +43,72 @@ length_line bytes l x whole = length-take-le (line_length x) (drop (line_start l
 pub state_in : (bytes : List ℕ) (k : ℕ) → 1 ≤ k → k ≤ units_on bytes → state_at (of_page bytes) k ≡ unit_in (materials_on bytes) (line_bytes bytes (materials_on bytes) (unit k))
 state_in bytes k some known = get_or-map-range_with_len (unit_on bytes (materials_on bytes)) 1 (units_on bytes) (k - 1) k free (omega arith) (omega arith)
 
--- with any letter but 'S' a unit does not stand
-pub not_standing : (letter : ℕ) (f : Fitted) → (letter ≡ 83 → ⊥) → is_standing (state_by letter f) ≡ false
-not_standing letter f other = ap (λ s. is_standing (cond s (standing f) (cond (eqb letter 87) (withheld f) free))) (ne_eqb letter 83 other) ∙ by (eqb letter 87) where
-  by : (w : Bool) → is_standing (cond w (withheld f) free) ≡ false
-  by true = refl
-  by false = refl
+-- the state that is told by its kind and by lists
+abbrev pub in_state : State → Fitted → UnitState
+in_state Free f = free
+in_state Standing f = standing f
+in_state Withheld f = withheld f
 
--- with any but 'W' it is not withheld
-pub not_withheld : (letter : ℕ) (f : Fitted) → (letter ≡ 87 → ⊥) → is_withheld (state_by letter f) ≡ false
-not_withheld letter f other = ap (λ w. is_withheld (cond (eqb letter 83) (standing f) (cond w (withheld f) free))) (ne_eqb letter 87 other) ∙ by (eqb letter 83) where
-  by : (s : Bool) → is_withheld (cond s (standing f) free) ≡ false
-  by true = refl
-  by false = refl
+-- what a letter and lists tell is told by the kind that the letter says
+by_kind : (letter : ℕ) (f : Fitted) → state_by letter f ≡ in_state (kind_of (state_by letter f)) f
+by_kind letter f = by (eqb letter 83) (eqb letter 87) where
+  by : (s w : Bool) → cond s (standing f) (cond w (withheld f) free) ≡ in_state (kind_of (cond s (standing f) (cond w (withheld f) free))) f
+  by true w = refl
+  by false true = refl
+  by false false = refl
 
--- with neither of them its number is free
-pub free_otherwise : (letter : ℕ) (f : Fitted) → (letter ≡ 83 → ⊥) → (letter ≡ 87 → ⊥) → is_free (state_by letter f) ≡ true
-free_otherwise letter f not-s not-w =
-    ap (λ s. is_free (cond s (standing f) (cond (eqb letter 87) (withheld f) free))) (ne_eqb letter 83 not-s)
-    ∙ ap (λ w. is_free (cond w (withheld f) free)) (ne_eqb letter 87 not-w)
-
--- and with one of them it is not
-pub taken : (letter : ℕ) (f : Fitted) → (letter ≡ 83) ⊎ (letter ≡ 87) → is_free (state_by letter f) ≡ false
-taken letter f (inl e) = ap (λ x. is_free (state_by x f)) e
-taken letter f (inr e) = ap (λ x. is_free (state_by x f)) e
-
--- a unit of a page book, with its line: the line is whole, and its letter and its lists tell the state
+-- a unit of a page book, with its line: the line is whole, and it tells the state
 pub record UnitAt (is_open : Bool) (bytes : List ℕ) (k : ℕ) (line : UnitLine) : Type 0 where
   pub there : inside k (unit_count (meaning_of is_open bytes)) ≡ true
   pub place : line ≡ line_of (meaning_of is_open bytes) k
   pub whole : line.start + 87 ≤ length bytes
-  pub state : state_at (meaning_of is_open bytes) k ≡ state_by (get_or bytes line.start 0) (lists_in bytes line)
+  pub state : state_at (meaning_of is_open bytes) k ≡ in_state line.state (lists_in bytes line)
 
 -- a unit that the book has is one of these, with the line that it should have
 unit_of : (is_open : Bool) (bytes : List ℕ) (k : ℕ) (line : UnitLine) → inside k (unit_count (meaning_of is_open bytes)) ≡ true → line ≡ line_of (meaning_of is_open bytes) k → UnitAt is_open bytes k line
 unit_of is_open bytes k line there place =
+    let m = meaning_of is_open bytes in
+    let found = line_of m k in
     let at = unit_there is_open bytes k there in
     record {
       there = there;
       place = place;
       whole = omega (arith, at.whole, ap (λ (x : UnitLine). x.start) place);
-      state = at.told ∙ ap (λ (x : UnitLine). state_by (get_or bytes x.start 0) (lists_in bytes x)) (sym place);
+      state = at.told
+          ∙ (by_kind (get_or bytes found.start 0) (lists_in bytes found)
+          ∙ (ap (λ s. in_state (kind_of s) (lists_in bytes found)) (sym at.told) ∙ ap (λ (x : UnitLine). in_state x.state (lists_in bytes x)) (sym place)));
     }
 
 -- and so is one whose line a search found; r is what the search answered
 pub unit_at : (is_open : Bool) (bytes : List ℕ) (k : ℕ) (line : UnitLine) (r : Option UnitLine) → r ≡ where_inside k (unit_count (meaning_of is_open bytes)) (line_of (meaning_of is_open bytes) k) → r ≡ Some line → UnitAt is_open bytes k line
 unit_at is_open bytes k line r searched is =
     let m = meaning_of is_open bytes in
-    let found = found_where (inside k (unit_count m)) (line_of m k) line (sym is ∙ searched) in
+    let found = found_inside k (unit_count m) (line_of m k) line (sym is ∙ searched) in
     unit_of is_open bytes k line found.0 found.1
 
 -- a material whose line a search found
 pub material_at_line : (is_open : Bool) (bytes : List ℕ) (k start : ℕ) (r : Option ℕ) → r ≡ where_inside k (material_count (meaning_of is_open bytes)) (line_start 0 (material k)) → r ≡ Some start → (inside k (material_count (meaning_of is_open bytes)) ≡ true) × (start ≡ line_start 0 (material k))
-material_at_line is_open bytes k start r searched is = found_where (inside k (material_count (meaning_of is_open bytes))) (line_start 0 (material k)) start (sym is ∙ searched)
-
--- a unit is withheld if its letter is 'W'
-pub withheld_found : (is_open : Bool) (bytes : List ℕ) (k : ℕ) (line : UnitLine) → UnitAt is_open bytes k line → get_or bytes line.start 0 ≡ 87 → Ok line ≡ withheld_line (meaning_of is_open bytes) k
-withheld_found is_open bytes k line at letter =
-    let m = meaning_of is_open bytes in
-    let test = and_from (inside k (unit_count m)) (is_withheld (state_at m k)) at.there (ap is_withheld at.state ∙ ap (λ x. is_withheld (state_by x (lists_in bytes line))) letter) in
-    ap Ok at.place ∙ sym (cond-true (withheld_at m k) (Ok (line_of m k)) (Err NotWithheld) test)
-
--- and else it is not
-pub withheld_missed : (is_open : Bool) (bytes : List ℕ) (k : ℕ) (line : UnitLine) → UnitAt is_open bytes k line → (get_or bytes line.start 0 ≡ 87 → ⊥) → Err NotWithheld ≡ withheld_line (meaning_of is_open bytes) k
-withheld_missed is_open bytes k line at other =
-    let m = meaning_of is_open bytes in
-    let test = and_right (inside k (unit_count m)) (is_withheld (state_at m k)) (ap is_withheld at.state ∙ not_withheld (get_or bytes line.start 0) (lists_in bytes line) other) in
-    sym (cond-false (withheld_at m k) (Ok (line_of m k)) (Err NotWithheld) test)
+material_at_line is_open bytes k start r searched is = found_inside k (material_count (meaning_of is_open bytes)) (line_start 0 (material k)) start (sym is ∙ searched)
 
 -- a withheld unit of a page book, with its line
 pub record WithheldAt (is_open : Bool) (bytes : List ℕ) (k : ℕ) (line : UnitLine) : Type 0 where
   pub at : UnitAt is_open bytes k line
   pub test : withheld_at (meaning_of is_open bytes) k ≡ true
-  pub letter : get_or bytes line.start 0 ≡ 87
+  pub kind : line.state ≡ Withheld
 
 -- such is one whose line a search found
 pub withheld_unit_at : (is_open : Bool) (bytes : List ℕ) (k : ℕ) (line : UnitLine) → Ok line ≡ withheld_line (meaning_of is_open bytes) k → WithheldAt is_open bytes k line
 withheld_unit_at is_open bytes k line searched =
     let m = meaning_of is_open bytes in
-    let found = found_withheld (withheld_at m k) (line_of m k) line searched in
+    let found = by (withheld_at m k) (line_of m k) line searched in
     let both = and_parts (inside k (unit_count m)) (is_withheld (state_at m k)) found.0 in
-    let at = unit_of is_open bytes k line both.0 found.1 in
-    let letter : get_or bytes line.start 0 ≡ 87 = elim (cases_eq (get_or bytes line.start 0) 87) [
-      | inl e ↦ e
-      | inr other ↦ absurd (both_ways (is_withheld (state_at m k)) (ap is_withheld at.state ∙ not_withheld (get_or bytes line.start 0) (lists_in bytes line) other) both.1)
-    ] in
-    record { at = at; test = found.0; letter = letter }
+    record { at = unit_of is_open bytes k line both.0 found.1; test = found.0; kind = ap (λ (x : UnitLine). x.state) found.1 ∙ kind (state_at m k) both.1 }
+  where
+    by : (test : Bool) (x y : UnitLine) → Ok y ≡ cond test (Ok x) (Err NotWithheld) → (test ≡ true) × (y ≡ x)
+    by true x y e = (refl, cc)
+    by false x y e = cc
+
+    kind : (s : UnitState) → is_withheld s ≡ true → kind_of s ≡ Withheld
+    kind free e = cc
+    kind (standing f) e = cc
+    kind (withheld f) e = refl

@@ -13,7 +13,8 @@ use Rattle.page.specs.Format.{material_line, unit_line, page_of}
 use Rattle.page.proofs.Lines.{length_material_line, length_unit_line}
 use Rattle.pagebook.specs.Reading.{material_in, unit_in, materials_on, units_on, material_on, unit_on, of_page}
 use Rattle.pagebook.specs.PageBooks.{extent, Canonical}
-use Rattle.pagebook.proofs.Overwritten.{over, part_over}
+use Rattle.pagebook.specs.Writes.{over}
+use Rattle.pagebook.proofs.Overwritten.{part_over}
 use Rattle.pagebook.proofs.Room.{few_materials_on, few_units_on, room_there}
 use Rattle.pagebook.proofs.Written.{unit_over, material_over}
 use Rattle.pagebook.proofs.Paged.{page_with_unit, page_with_material}

@@ -4,14 +4,15 @@ use borrow.Rule.Slice.PartMut.{put_mid}
 use lib.Seq.{take-append-add, drop-append-add}
 use Rattle.std.proofs.lemmas.List.{append_assoc, length-append, length-set, length-take-le, length-drop, take-append-drop, take-append-le, drop-append-le, take_at, drop_at, drop-drop, drop-take, set-append_left, set-append_right}
 use Rattle.std.proofs.lemmas.Slice.{take-put_mid_below, drop-put_mid}
-
--- the bytes with a line written over those from place p on
-abbrev pub over : ℕ → List ℕ → List ℕ → List ℕ
-over p line bytes = take p bytes ++ (line ++ drop (p + length line) bytes)
+use Rattle.pagebook.specs.Writes.{over}
 
 -- a write to a part of a slice overwrites that part
 pub put_mid_over : (p : ℕ) (line bytes : List ℕ) → put_mid p (length line) bytes line ≡ over p line bytes
 put_mid_over p line bytes = ap (λ (rest : List ℕ). take p bytes ++ (line ++ rest)) (drop-drop (length line) p bytes)
+
+-- so where it leaves a line there, the bytes have that line over the part
+pub put_over : (p n : ℕ) (bytes part line : List ℕ) → part ≡ line → length line ≡ n → put_mid p n bytes part ≡ over p line bytes
+put_over p n bytes part line e h = ap (λ i. put_mid p i bytes part) (sym h) ∙ (ap (put_mid p (length line) bytes) e ∙ put_mid_over p line bytes)
 
 -- a line that lies within the bytes
 module _ (p : ℕ) (line bytes : List ℕ) (whole : p + length line ≤ length bytes) where

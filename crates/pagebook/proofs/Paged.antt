@@ -7,7 +7,8 @@ use Rattle.page.specs.Layout.{material, unit, line_start}
 use Rattle.page.specs.Format.{counts_line, material_line, unit_line, numbered, page_of}
 use Rattle.page.proofs.Numbered.{Numbers, numbers_both, numbers_weaker, numbers_from_all, numbers_up_to, numbered_end, material_next}
 use Rattle.page.proofs.Lines.{length_counts_line, length_material_line, length_unit_line}
-use Rattle.pagebook.proofs.Overwritten.{over, over_behind, over_before}
+use Rattle.pagebook.specs.Writes.{over}
+use Rattle.pagebook.proofs.Overwritten.{over_behind, over_before}
 
 -- numbered lines of w bytes each, of which one is the line of something else: that line is overwritten
 numbered_set : {X : Type 0} (line : ℕ → X → List ℕ) (w j : ℕ) (xs : List X) (i k : ℕ) (x : X) → i < length xs → j + i ≡ k → Numbers (λ n y. length (line n y) ≡ w) j xs → length (line k x) ≡ w → numbered line j (set xs i x) ≡ over (w * i) (line k x) (numbered line j xs)

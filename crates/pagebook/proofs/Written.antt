@@ -8,7 +8,8 @@ use Rattle.page.specs.Layout.{number_width, most, material, unit, line_start, pa
 use Rattle.pagebook.specs.Reading.{number_shown, material_in, unit_in, first_count, second_count, room, materials_on, units_on, material_on, unit_on, of_page}
 use Rattle.pagebook.specs.PageBooks.{extent}
 use Rattle.pagebook.proofs.Room.{room_there}
-use Rattle.pagebook.proofs.Overwritten.{over, length_over, take_over, drop_over, part_before, part_after, part_over}
+use Rattle.pagebook.specs.Writes.{over}
+use Rattle.pagebook.proofs.Overwritten.{length_over, take_over, drop_over, part_before, part_after, part_over}
 
 -- two functions that agree on n numbers from a on make the same list of them
 pub same_counting : {X : Type 0} (f g : ℕ → X) (a n : ℕ) → ((j : ℕ) → a ≤ j → j < a + n → g j ≡ f j) → map g (range_with_len a n) ≡ map f (range_with_len a n)

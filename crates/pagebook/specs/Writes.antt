@@ -6,7 +6,7 @@ use Rattle.book.specs.Meaning.{Fitted, Meaning}
 use Rattle.book.specs.Declined.{withheld_at}
 use Rattle.page.specs.Layout.{letter_width, number_width, list_width}
 use Rattle.page.specs.Format.{list_bytes}
-use Rattle.pagebook.specs.declared.questions.UnitLine.{UnitLine}
+use Rattle.pagebook.specs.declared.lines.UnitLine.{UnitLine}
 use Rattle.pagebook.specs.Places.{line_of}
 
 -- the line of unit k, where a withheld unit is looked for: any other number is refused

@@ -1,50 +1,37 @@
-// What is written on a page: letters, numbers, lists and a unit's line, each at its place in the bytes; and whether a list
-// may be written there.
+// What is read and written at a place in the bytes: numbers, lists and a unit's line.
 ghost use Rattle.std.specs.Prelude.{◌≡◌, ◌+◌, ◌≤◌, length, take, drop};
 ghost use Rattle.book.specs.Meaning.{FittedWithin};
-ghost use Rattle.book.specs.Declined.{climbs, fitting};
 ghost use Rattle.book.specs.Edits.{lists_given};
 ghost use Rattle.columns.specs.Columns.{column};
 ghost use Rattle.page.specs.Layout.{number_width, list_fields, list_width, most, line_length};
 ghost use Rattle.page.specs.Layout.{unit as line_of_unit};
-ghost use Rattle.page.specs.Format.{class_letter, list_bytes};
+ghost use Rattle.page.specs.Format.{list_bytes};
+ghost use Rattle.page.specs.Letters.{letter_of_state};
+ghost use Rattle.pagebook.specs.Reading.{number_shown};
 ghost use Rattle.pagebook.specs.Writes.{over, refitted};
 
-use book::Lists;
-use page::layout::{INPUTS, LIST, LIST_FIELDS, NUMBER, OUTPUTS};
+use book::{Lists, State};
+use columns::Content;
+use page::layout::{INPUTS, LIST, NUMBER, OUTPUTS};
+use page::letters::Lettered;
 
-// The letter of a material's line.
-pub(crate) fn class_letter(wanted: bool, bought: bool) -> u8
-    ensures { result ≡ class_letter wanted bought }
+// The number that the field shows; 0 where it shows none.
+pub(crate) fn number_in(field: &[u8]) -> u32
+    requires { length field.now ≡ number_width }
+    ensures { result ≡ number_shown field.now }
 {
-    match (wanted, bought) {
-        (false, false) => b'-',
-        (true, false) => b'P',
-        (false, true) => b'R',
-        (true, true) => b'B',
+    match columns::read(field) {
+        Content::Number(number) => number,
+        _ => 0,
     }
 }
 
-// Whether a unit may be fitted with the list in a book of so many materials: at most eight entries, each one of the
-// materials, strictly ascending.
-pub(crate) fn is_fitting(list: &[u16], materials: u16) -> bool
-    ensures { result ≡ fitting materials list.now }
+// The number in the field that begins at `start`.
+pub(crate) fn number_at(bytes: &[u8], start: usize) -> u32
+    requires { start + number_width ≤ length bytes.now }
+    ensures { result ≡ number_shown (take number_width (drop start bytes.now)) }
 {
-    list.len() <= LIST_FIELDS && is_climbing(list, materials)
-}
-
-// Whether each number is above the one before it, the first above 0, and none above the highest.
-fn is_climbing(list: &[u16], highest: u16) -> bool
-    ensures { result ≡ climbs 0 highest list.now }
-{
-    let mut last = 0;
-    for number in list {
-        if *number <= last || *number > highest {
-            return false;
-        }
-        last = *number;
-    }
-    true
+    number_in(&bytes[start..start + NUMBER])
 }
 
 // Writes a number into the field that begins at `start`.
@@ -55,25 +42,29 @@ fn put_number(bytes: &mut [u8], start: usize, number: u16)
     columns::write(&mut bytes[start..start + NUMBER], NUMBER, u32::from(number)).unwrap();
 }
 
-// Writes a list into the fields that begin at `start`: its numbers into the first of them, blanks into the others.
-fn put_list(bytes: &mut [u8], start: usize, list: &[u16])
-    requires within { start + list_width ≤ length bytes.old }
+// Writes a list into its fields: its numbers into the first of them, blanks into the others.
+fn put_list(fields: &mut [u8], list: &[u16])
+    requires within { length fields.old ≡ list_width }
     requires few { length list.now ≤ list_fields }
-    ensures { bytes.new ≡ over start (list_bytes list.now) bytes.old }
+    ensures { fields.new ≡ list_bytes list.now }
 {
-    bytes[start..start + LIST].fill(b' ');
+    fields.fill(b' ');
+    // A place: the parts that `chunks_exact_mut` lends tell nothing of the fields once they are written.
     for (place, number) in list.iter().enumerate() {
-        put_number(bytes, start + NUMBER * place, *number);
+        put_number(fields, NUMBER * place, *number);
     }
 }
 
-// Writes a letter and two lists into the unit's line that begins at `start`. Its number and its newline stay.
-pub(crate) fn put_unit(bytes: &mut [u8], start: usize, letter: u8, lists: Lists<'_>)
+// Writes the letter of a state and two lists into the unit's line that begins at `start`. Its number and its newline stay.
+pub(crate) fn put_unit(bytes: &mut [u8], start: usize, state: State, lists: Lists<'_>)
     requires within { start + line_length (line_of_unit 0) ≤ length bytes.old }
     requires listed { FittedWithin most (lists_given lists) }
-    ensures { bytes.new ≡ over start (refitted letter (lists_given lists.entry) (take (line_length (line_of_unit 0)) (drop start bytes.old))) bytes.old }
+    ensures { bytes.new ≡ over start (refitted (letter_of_state state) (lists_given lists.entry) (take (line_length (line_of_unit 0)) (drop start bytes.old))) bytes.old }
 {
-    bytes[start] = letter;
-    put_list(bytes, start + INPUTS, lists.inputs);
-    put_list(bytes, start + OUTPUTS, lists.outputs);
+    bytes[start] = state.letter();
+    put_list(&mut bytes[start + INPUTS..start + OUTPUTS], lists.inputs);
+    put_list(
+        &mut bytes[start + OUTPUTS..start + OUTPUTS + LIST],
+        lists.outputs,
+    );
 }

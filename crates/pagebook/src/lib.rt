@@ -4,21 +4,17 @@
 ghost use Rattle.std.specs.Prelude.{◌≡◌, ℕ, false, Decides};
 ghost use Rattle.page.specs.Checked.{SomePage};
 ghost use Rattle.page.specs.Faults.{Refused};
-ghost use Rattle.pagebook.specs.PageBooks.{page_meaning, PageKept, Opened};
-ghost use Rattle.pagebook.specs.PageLaws.{page_laws};
+ghost use Rattle.pagebook.specs.PageBooks.{page_meaning, Opened};
 
 mod edits;
 mod fields;
+mod lines;
+mod lists;
 mod questions;
-
-use book::{Book, EditableBook, Lists, Refusal};
-use edits::{page_class, page_clear, page_fit, page_hide, page_show};
-use questions::{
-    Side, counts, page_bought, page_entry, page_entry_count, page_stands, page_wanted,
-};
 
 #[derive(Drop)]
 pub struct PageBook<'a> {
+    // The bytes of a refused page stay lent to the book, so they stand beside the flag and not under it.
     bytes: &'a mut [u8],
     // Whether the bytes were a page when the book was opened. One that is not open is the empty book.
     open: bool,
@@ -42,71 +38,5 @@ impl<'a> PageBook<'a> {
     {
         let open = is_page(bytes);
         PageBook { bytes, open }
-    }
-}
-
-impl<'a> Book for PageBook<'a> {
-    ghost meaning = { page_meaning };
-
-    ghost kept = { PageKept };
-
-    ghost laws = { page_laws };
-
-    fn materials(&mut self) -> u16 {
-        counts(self.open, self.bytes).0
-    }
-
-    fn units(&mut self) -> u16 {
-        counts(self.open, self.bytes).1
-    }
-
-    fn wanted(&mut self, material: u16) -> Option<bool> {
-        page_wanted(self.open, self.bytes, material)
-    }
-
-    fn bought(&mut self, material: u16) -> Option<bool> {
-        page_bought(self.open, self.bytes, material)
-    }
-
-    fn stands(&mut self, unit: u16) -> Option<bool> {
-        page_stands(self.open, self.bytes, unit)
-    }
-
-    fn input_count(&mut self, unit: u16) -> Option<u16> {
-        page_entry_count(self.open, self.bytes, unit, Side::Inputs)
-    }
-
-    fn output_count(&mut self, unit: u16) -> Option<u16> {
-        page_entry_count(self.open, self.bytes, unit, Side::Outputs)
-    }
-
-    fn input(&mut self, unit: u16, place: u16) -> Option<u16> {
-        page_entry(self.open, self.bytes, unit, Side::Inputs, place)
-    }
-
-    fn output(&mut self, unit: u16, place: u16) -> Option<u16> {
-        page_entry(self.open, self.bytes, unit, Side::Outputs, place)
-    }
-}
-
-impl<'a> EditableBook for PageBook<'a> {
-    fn fit(&mut self, unit: u16, lists: Lists<'_>) -> Result<(), Refusal> {
-        page_fit(self.open, self.bytes, unit, lists)
-    }
-
-    fn class(&mut self, material: u16, wanted: bool, bought: bool) -> Result<(), Refusal> {
-        page_class(self.open, self.bytes, material, wanted, bought)
-    }
-
-    fn hide(&mut self, unit: u16) -> Result<(), Refusal> {
-        page_hide(self.open, self.bytes, unit)
-    }
-
-    fn show(&mut self, unit: u16) -> Result<(), Refusal> {
-        page_show(self.open, self.bytes, unit)
-    }
-
-    fn clear(&mut self, unit: u16) -> Result<(), Refusal> {
-        page_clear(self.open, self.bytes, unit)
     }
 }
