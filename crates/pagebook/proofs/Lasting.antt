@@ -1,8 +1,7 @@
 -- Bytes that are exactly the page of what they mean: they stay so where one line is overwritten, and each of their lines is
 -- the one for what it means. Assumes nothing.
-use Rattle.std.proofs.Common.{◌≡◌, ℕ, ◌-◌, ◌≤◌, List, length, take, drop, sym, ap, ◌∙◌, arith}
+use Rattle.std.proofs.Common.{◌≡◌, ℕ, ◌-◌, ◌≤◌, List, length, take, drop, sym, ap, ◌∙◌, inl, inr, arith}
 use Rattle.std.proofs.lemmas.List.{set-get_or}
-use Rattle.std.proofs.lemmas.List.FromFn.{length-map-range_with_len}
 use Rattle.std.proofs.ByRecursion.{All-get_or}
 use Rattle.book.specs.Meaning.{Material, UnitState, free, Meaning, material_count, unit_count, StateWithin, WellFormed}
 use Rattle.book.specs.Declined.{state_at}
@@ -15,7 +14,7 @@ use Rattle.pagebook.specs.Reading.{material_in, unit_in, materials_on, units_on,
 use Rattle.pagebook.specs.PageBooks.{extent, Canonical}
 use Rattle.pagebook.specs.Writes.{over}
 use Rattle.pagebook.proofs.Overwritten.{part_over}
-use Rattle.pagebook.proofs.Room.{few_materials_on, few_units_on, room_there}
+use Rattle.pagebook.specs.PageLaws.{few_materials, few_units, room_there, count_materials, count_units}
 use Rattle.pagebook.proofs.Written.{unit_over, material_over}
 use Rattle.pagebook.proofs.Paged.{page_with_unit, page_with_material}
 
@@ -27,14 +26,6 @@ same_unit m k = rw (set-get_or m.units (k - 1) free)
 same_material : (m : Meaning) (k : ℕ) → with_material m k (material_at m k) ≡ m
 same_material m k = rw (set-get_or m.materials (k - 1) plain)
 
--- what bytes mean has as many materials as they have
-pub count_materials : (bytes : List ℕ) → material_count (of_page bytes) ≡ materials_on bytes
-count_materials bytes = length-map-range_with_len (material_on bytes) 1 (materials_on bytes)
-
--- and as many units
-pub count_units : (bytes : List ℕ) → unit_count (of_page bytes) ≡ units_on bytes
-count_units bytes = length-map-range_with_len (unit_on bytes (materials_on bytes)) 1 (units_on bytes)
-
 -- bytes that are exactly the page of what they mean
 module _ (bytes : List ℕ) (formed : WellFormed (of_page bytes)) (canonical : Canonical bytes) where
   -- the page of what they mean with another unit k is they with the line of that unit overwritten
@@ -44,7 +35,7 @@ module _ (bytes : List ℕ) (formed : WellFormed (of_page bytes)) (canonical : C
       let line = unit_line k s in
       let cm = count_materials bytes in
       let cu = count_units bytes in
-      page_with_unit m formed (omega (arith, few_materials_on bytes)) (omega (arith, few_units_on bytes)) k s some (omega arith) long
+      page_with_unit m formed (omega (arith, few_materials bytes)) (omega (arith, few_units bytes)) k s some (omega arith) long
       ∙ (ap (λ l. over (line_start l (unit k)) line (page_of m)) cm ∙ ap (over (line_start (materials_on bytes) (unit k)) line) (sym canonical))
 
   -- and likewise with another material k
@@ -52,7 +43,7 @@ module _ (bytes : List ℕ) (formed : WellFormed (of_page bytes)) (canonical : C
   bytes_with_material k x some known long =
       let cm = count_materials bytes in
       let cu = count_units bytes in
-      page_with_material (of_page bytes) formed (omega (arith, few_materials_on bytes)) (omega (arith, few_units_on bytes)) k x some (omega arith) long
+      page_with_material (of_page bytes) formed (omega (arith, few_materials bytes)) (omega (arith, few_units bytes)) k x some (omega arith) long
       ∙ ap (over (line_start 0 (material k)) (material_line k x)) (sym canonical)
 
 -- overwriting the line of unit k by the line of a state, where that line means that state, leaves bytes that are exactly the
@@ -80,9 +71,9 @@ unit_line_there bytes k formed canonical some known =
     let cm = count_materials bytes in
     let cu = count_units bytes in
     let long : length (unit_line k s) ≡ 87 =
-    length_unit_line (material_count m) k s (omega (arith, few_materials_on bytes)) (omega (arith, few_units_on bytes)) (All-get_or (StateWithin (material_count m)) m.units (k - 1) free (omega arith) formed.lists) in
+    length_unit_line (material_count m) k s (omega (arith, few_materials bytes)) (omega (arith, few_units bytes)) (All-get_or (StateWithin (material_count m)) m.units (k - 1) free (omega arith) formed.lists) in
     let written : bytes ≡ over p (unit_line k s) bytes = canonical ∙ (ap page_of (sym (same_unit m k)) ∙ bytes_with_unit bytes formed canonical k s some known long) in
-    let room : extent bytes ≤ length bytes = room_there bytes (omega arith) in
+    let room : extent bytes ≤ length bytes = room_there bytes (inr (omega arith)) in
     ap (λ (t : List ℕ). take 87 (drop p t)) written ∙ part_over p (unit_line k s) bytes (omega arith) 87 long
 
 -- and the line of material k is the one for that material
@@ -91,7 +82,7 @@ material_line_there bytes k formed canonical some known =
     let m = of_page bytes in
     let p = line_start 0 (material k) in
     let x = material_at m k in
-    let long : length (material_line k x) ≡ 7 = length_material_line k x (omega (arith, few_materials_on bytes)) in
+    let long : length (material_line k x) ≡ 7 = length_material_line k x (omega (arith, few_materials bytes)) in
     let written : bytes ≡ over p (material_line k x) bytes = canonical ∙ (ap page_of (sym (same_material m k)) ∙ bytes_with_material bytes formed canonical k x some known long) in
-    let room : extent bytes ≤ length bytes = room_there bytes (omega arith) in
+    let room : extent bytes ≤ length bytes = room_there bytes (inl (omega arith)) in
     ap (λ (t : List ℕ). take 7 (drop p t)) written ∙ part_over p (material_line k x) bytes (omega arith) 7 long

@@ -5,7 +5,6 @@ pub mod Parts
 pub mod Entries
 pub mod Answering
 pub mod Overwritten
-pub mod Room
 pub mod Written
 pub mod Paged
 pub mod Lasting

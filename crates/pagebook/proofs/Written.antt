@@ -7,7 +7,7 @@ use Rattle.book.specs.Edits.{with_unit, with_material}
 use Rattle.page.specs.Layout.{number_width, most, material, unit, line_start, page_length}
 use Rattle.pagebook.specs.Reading.{number_shown, material_in, unit_in, first_count, second_count, room, materials_on, units_on, material_on, unit_on, of_page}
 use Rattle.pagebook.specs.PageBooks.{extent}
-use Rattle.pagebook.proofs.Room.{room_there}
+use Rattle.pagebook.specs.PageLaws.{room_there}
 use Rattle.pagebook.specs.Writes.{over}
 use Rattle.pagebook.proofs.Overwritten.{length_over, take_over, drop_over, part_before, part_after, part_over}
 
@@ -93,7 +93,7 @@ unit_over bytes line k some known long =
     let l = materials_on bytes in
     let n = units_on bytes in
     let p = line_start l (unit k) in
-    let room : extent bytes ≤ length bytes = room_there bytes (omega arith) in
+    let room : extent bytes ≤ length bytes = room_there bytes (inr (omega arith)) in
     let high : p + length line ≤ extent bytes = omega arith in
     let whole : p + length line ≤ length bytes = omega arith in
     rewritten p line bytes (omega arith) whole high (of_page bytes).materials (set (of_page bytes).units (k - 1) (unit_in l line))
@@ -111,7 +111,7 @@ material_over bytes line k some known long =
     let l = materials_on bytes in
     let n = units_on bytes in
     let p = line_start 0 (material k) in
-    let room : extent bytes ≤ length bytes = room_there bytes (omega arith) in
+    let room : extent bytes ≤ length bytes = room_there bytes (inl (omega arith)) in
     let high : p + length line ≤ extent bytes = omega arith in
     let whole : p + length line ≤ length bytes = omega arith in
     rewritten p line bytes (omega arith) whole high (set (of_page bytes).materials (k - 1) (material_in line)) (of_page bytes).units
