@@ -12,7 +12,7 @@ use Rattle.pagebook.specs.declared.lines.UnitLine.{UnitLine}
 use Rattle.pagebook.specs.Reading.{material_in, state_by, unit_in, first_count, second_count, room, materials_on, units_on, material_on, unit_on, of_page}
 use Rattle.pagebook.specs.PageBooks.{meaning_of}
 use Rattle.pagebook.specs.PageLaws.{room_there, count_materials, count_units}
-use Rattle.pagebook.specs.Places.{kind_of, class_at, line_of, lists_in}
+use Rattle.pagebook.specs.Places.{class_of, kind_of, line_of, lists_in}
 use Rattle.pagebook.proofs.Parts.{first_of_part}
 
 -- the test of the two numbers that were read from the first line is the test of the room for them
@@ -81,41 +81,47 @@ unit_there true bytes k e =
     }
 unit_there false bytes k e = absurd (omega (arith, inside_parts k 0 e))
 
--- a class is told by its two parts, and a line by its three
-same_class : (a b a' b' : Bool) → a ≡ a' → b ≡ b' → ◌≡◌ {A = Class} (record { wanted = a; bought = b }) (record { wanted = a'; bought = b' })
-same_class a b a' b' p q = cc
-
+-- a line is told by its three parts
 same_line : (i i' : ℕ) (s s' : State) (l l' : ℕ) → i ≡ i' → s ≡ s' → l ≡ l' → ◌≡◌ {A = UnitLine} (record { start = i; state = s; materials = l }) (record { start = i'; state = s'; materials = l' })
 same_line i i' s s' l l' p q r = cc
 
 -- a material whose line was found has the class that the letter there tells
 pub class_answer : (is_open : Bool) (bytes : List ℕ) (k start : ℕ) (c : Class)
     → Some start ≡ where_inside k (material_count (meaning_of is_open bytes)) (line_start 0 (material k))
-    → c.wanted ≡ (material_in (get_or bytes start 0 ∷ [])).wanted
-    → c.bought ≡ (material_in (get_or bytes start 0 ∷ [])).bought
-    → Some c ≡ where_inside k (material_count (meaning_of is_open bytes)) (class_at (meaning_of is_open bytes) k)
-class_answer is_open bytes k start c e wanted bought =
+    → c ≡ class_of (material_in (get_or bytes start 0 ∷ []))
+    → Some c ≡ where_inside k (material_count (meaning_of is_open bytes)) (class_of (material_at (meaning_of is_open bytes) k))
+class_answer is_open bytes k start c e read =
     let m = meaning_of is_open bytes in
     let found = found_inside k (material_count m) (line_start 0 (material k)) start e in
     let there = material_there is_open bytes k found.0 in
     let told : material_at m k ≡ material_in (get_or bytes start 0 ∷ []) = there.told ∙ ap (λ i. material_in (get_or bytes i 0 ∷ [])) (sym found.1) in
-    let same : c ≡ class_at m k = same_class c.wanted c.bought (material_at m k).wanted (material_at m k).bought (wanted ∙ sym (ap (λ x. x.wanted) told)) (bought ∙ sym (ap (λ x. x.bought) told)) in
-    ap Some same ∙ sym (cond-true (inside k (material_count m)) (Some (class_at m k)) None found.0)
+    ap Some (read ∙ sym (ap class_of told)) ∙ sym (cond-true (inside k (material_count m)) (Some (class_of (material_at m k))) None found.0)
 
--- a unit number whose line was found has the state that the letter there tells
+-- a unit number that was found inside the book has its line within the bytes
+pub line_found : (is_open : Bool) (bytes : List ℕ) (k start l n : ℕ)
+    → true ≡ inside k n
+    → n ≡ unit_count (meaning_of is_open bytes)
+    → start ≡ line_start l (unit k)
+    → l ≡ material_count (meaning_of is_open bytes)
+    → (inside k (unit_count (meaning_of is_open bytes)) ≡ true) × (start + line_length (unit k) ≤ length bytes)
+line_found is_open bytes k start l n test known begins count =
+    let within : inside k (unit_count (meaning_of is_open bytes)) ≡ true = sym (test ∙ ap (inside k) known) in
+    (within, omega (arith, (unit_there is_open bytes k within).whole, begins ∙ ap (λ i. line_start i (unit k)) count))
+
+-- a unit number inside the book has the line that begins at its place and has the state that the letter there tells
 pub line_answer : (is_open : Bool) (bytes : List ℕ) (k start l : ℕ) (s : State)
-    → ◌≡◌ {A = Option (ℕ × ℕ)} (Some (start, l)) (where_inside k (unit_count (meaning_of is_open bytes)) (line_start (material_count (meaning_of is_open bytes)) (unit k), material_count (meaning_of is_open bytes)))
+    → inside k (unit_count (meaning_of is_open bytes)) ≡ true
+    → start ≡ line_start l (unit k)
+    → l ≡ material_count (meaning_of is_open bytes)
     → ((f : Fitted) → s ≡ kind_of (state_by (get_or bytes start 0) f))
     → Some (record { start = start; state = s; materials = l }) ≡ where_inside k (unit_count (meaning_of is_open bytes)) (line_of (meaning_of is_open bytes) k)
-line_answer is_open bytes k start l s e told =
+line_answer is_open bytes k start l s within begins count told =
     let m = meaning_of is_open bytes in
-    let found = found_inside {X = ℕ × ℕ} k (unit_count m) (line_start (material_count m) (unit k), material_count m) (start, l) e in
-    let there = unit_there is_open bytes k found.0 in
-    let place : start ≡ (line_of m k).start = ap (λ (x : ℕ × ℕ). x.0) found.1 in
-    let count : l ≡ material_count m = ap (λ (x : ℕ × ℕ). x.1) found.1 in
-    let state : s ≡ kind_of (state_at m k) = told (lists_in bytes (line_of m k)) ∙ (ap (λ i. kind_of (state_by (get_or bytes i 0) (lists_in bytes (line_of m k)))) place ∙ sym (ap kind_of there.told)) in
-    let same = same_line start (line_of m k).start s (kind_of (state_at m k)) l (material_count m) place state count in
-    ap Some same ∙ sym (cond-true (inside k (unit_count m)) (Some (line_of m k)) None found.0)
+    let line = line_of m k in
+    let there = unit_there is_open bytes k within in
+    let place : start ≡ line.start = begins ∙ ap (λ i. line_start i (unit k)) count in
+    let state : s ≡ line.state = told (lists_in bytes line) ∙ (ap (λ i. kind_of (state_by (get_or bytes i 0) (lists_in bytes line))) place ∙ sym (ap kind_of there.told)) in
+    ap Some (same_line start line.start s line.state l (material_count m) place state count) ∙ sym (cond-true (inside k (unit_count m)) (Some line) None within)
 
 -- what stands by a letter stands with the lists that are read with it
 stands_with : (letter : ℕ) (f g : Fitted) → standing g ≡ state_by letter f → g ≡ f

@@ -10,7 +10,7 @@ use Rattle.page.specs.Format.{class_letter, material_line, unit_line}
 use Rattle.page.specs.Letters.{letter_of_state, StandsFor}
 use Rattle.page.specs.Rules.{inputs_in, outputs_in}
 use Rattle.pagebook.specs.Reading.{list_in, material_in, state_by, unit_in}
-use Rattle.pagebook.specs.Places.{kind_of}
+use Rattle.pagebook.specs.Places.{class_of, kind_of}
 
 -- 'W' over the letter of a standing unit withholds it
 pub letter_line : (k : ℕ) (f : Fitted) → set (unit_line k (standing f)) 0 87 ≡ unit_line k (withheld f)
@@ -39,7 +39,7 @@ class_in (x ∷ xs) false false some = refl
 
 -- the class that the letter of a material's line tells
 abbrev class_by : ℕ → Class
-class_by letter = record { wanted = (material_in (letter ∷ [])).wanted; bought = (material_in (letter ∷ [])).bought }
+class_by letter = class_of (material_in (letter ∷ []))
 
 -- it is the class that the letter was written for
 class_written : (w b : Bool) → class_by (class_letter w b) ≡ record { wanted = w; bought = b }

@@ -2,12 +2,12 @@
 ghost use Rattle.std.specs.Prelude.{◌≡◌, ◌+◌, ◌≤◌, ◌&&◌, [], ◌∷◌, length, take, drop, IfOk, IfSome, Some, None, MatchOption, nat_le};
 ghost use Rattle.book.specs.Meaning.{Fitted, material_count, unit_count};
 ghost use Rattle.book.specs.Declined.{inside};
-ghost use Rattle.book.specs.Asked.{where_inside, fitted_at, list_on};
+ghost use Rattle.book.specs.Asked.{where_inside, fitted_at, list_on, material_at};
 ghost use Rattle.page.specs.Layout.{list_width, most, line_length, line_start, page_length};
 ghost use Rattle.page.specs.Layout.{material as line_of_material, unit as line_of_unit};
 ghost use Rattle.pagebook.specs.Reading.{list_in, materials_on, units_on, material_in, state_by};
 ghost use Rattle.pagebook.specs.PageBooks.{page_meaning};
-ghost use Rattle.pagebook.specs.Places.{class_at, kind_of, line_of, lists_in, side_column};
+ghost use Rattle.pagebook.specs.Places.{class_of, kind_of, line_of, LineWithin, lists_in, side_column};
 ghost use Rattle.pagebook.specs.Writes.{withheld_line};
 
 use crate::PageBook;
@@ -40,13 +40,12 @@ fn column(side: Side) -> usize
 pub(crate) fn within(number: u16, count: u16) -> bool
     ensures { result ≡ inside number count }
 {
-    number >= 1 && number <= count
+    (1..=count).contains(&number)
 }
 
 // The class that the letter of a material's line tells; any other letter is plain.
 fn class_told(letter: u8) -> Class
-    ensures wanted { result.wanted ≡ (material_in (letter ∷ [])).wanted }
-    ensures bought { result.bought ≡ (material_in (letter ∷ [])).bought }
+    ensures { result ≡ class_of (material_in (letter ∷ [])) }
 {
     Class::of_letter(letter).unwrap_or(Class::PLAIN)
 }
@@ -112,33 +111,26 @@ impl PageBook<'_> {
 
     // The class of a material.
     pub(crate) fn class_of(&self, material: u16) -> Option<Class>
-        ensures { result ≡ where_inside material (material_count (page_meaning self.now)) (class_at (page_meaning self.now) material) }
+        ensures { result ≡ where_inside material (material_count (page_meaning self.now)) (class_of (material_at (page_meaning self.now) material)) }
     {
         let start = self.material_line(material)?;
         Some(class_told(self.bytes[start]))
     }
 
-    // Where the line of a unit number begins, and how many materials the book has.
-    fn unit_place(&self, unit: u16) -> Option<(usize, u16)>
-        ensures line { result ≡ where_inside unit (unit_count (page_meaning self.now)) (line_start (material_count (page_meaning self.now)) (line_of_unit unit), material_count (page_meaning self.now)) }
-        ensures whole { IfSome result (λ found. found.0 + line_length (line_of_unit unit) ≤ length self.now.bytes.now) }
+    // The line of a unit number.
+    pub(crate) fn unit_line(&self, unit: u16) -> Option<UnitLine>
+        ensures line { result ≡ where_inside unit (unit_count (page_meaning self.now)) (line_of (page_meaning self.now) unit) }
+        ensures whole { IfSome result (LineWithin self.now.bytes.now) }
     {
         let (materials, units) = self.counts();
         if !within(unit, units) {
             return None;
         }
-        Some((unit_start(materials, unit), materials))
-    }
-
-    // The line of a unit number.
-    pub(crate) fn unit_line(&self, unit: u16) -> Option<UnitLine>
-        ensures line { result ≡ where_inside unit (unit_count (page_meaning self.now)) (line_of (page_meaning self.now) unit) }
-        ensures whole { IfSome result (λ line. line.start + line_length (line_of_unit unit) ≤ length self.now.bytes.now) }
-    {
-        let (start, materials) = self.unit_place(unit)?;
+        let start = unit_start(materials, unit);
+        let state = state_told(self.bytes[start]);
         Some(UnitLine {
             start,
-            state: state_told(self.bytes[start]),
+            state,
             materials,
         })
     }
@@ -146,7 +138,7 @@ impl PageBook<'_> {
     // The line of a standing unit.
     pub(crate) fn standing_line(&self, unit: u16) -> Option<UnitLine>
         ensures lists { MatchOption result (fitted_at unit (page_meaning self.now) ≡ None) (λ line. fitted_at unit (page_meaning self.now) ≡ Some (lists_in self.now.bytes.now line)) }
-        ensures whole { IfSome result (λ line. line.start + line_length (line_of_unit unit) ≤ length self.now.bytes.now) }
+        ensures whole { IfSome result (LineWithin self.now.bytes.now) }
     {
         self.unit_line(unit)
             .filter(|line| line.state == State::Standing)
@@ -155,7 +147,7 @@ impl PageBook<'_> {
     // The line of a withheld unit. Any other number is refused, one outside the book too.
     pub(crate) fn withheld_line(&self, unit: u16) -> Result<UnitLine, Refusal>
         ensures line { result ≡ withheld_line (page_meaning self.now) unit }
-        ensures whole { IfOk result (λ line. line.start + line_length (line_of_unit unit) ≤ length self.now.bytes.now) }
+        ensures whole { IfOk result (LineWithin self.now.bytes.now) }
     {
         self.unit_line(unit)
             .filter(|line| line.state == State::Withheld)
@@ -164,7 +156,7 @@ impl PageBook<'_> {
 
     // The fields of one of a unit's lists.
     pub(crate) fn list(&self, line: UnitLine, side: Side) -> &[u8]
-        requires { line.start + line_length (line_of_unit 0) ≤ length self.now.bytes.now }
+        requires { LineWithin self.now.bytes.now line }
         ensures whole { length result.now ≡ list_width }
         ensures read { list_in line.materials result.now ≡ list_on side (lists_in self.now.bytes.now line) }
     {

@@ -1,10 +1,7 @@
 -- A letter that is that of no class is read as that of a plain material.
-use Rattle.std.proofs.Common.{ap, ◌∙◌}
-use Rattle.book.specs.declared.books.Class.{Class}
+use Rattle.std.proofs.Common.{◌∙◌}
 use Rattle.pagebook.proofs.Lettered.{class_read}
 use Rattle.pagebook.proofs.lines.class_told.Goals as goal
 
 pub returns : goal.returns
-returns c =
-    let read = c.unwrap_or.ensures ∙ class_read c.args.letter c.of_letter.result c.of_letter.ensures in
-    record { wanted = ap (λ (x : Class). x.wanted) read; bought = ap (λ (x : Class). x.bought) read }
+returns c = c.unwrap_or.ensures ∙ class_read c.args.letter c.of_letter.result c.of_letter.ensures
