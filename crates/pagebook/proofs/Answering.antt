@@ -45,7 +45,7 @@ pub found_inside : {X : Type 0} (k count : ℕ) (x y : X) → Some y ≡ where_i
 found_inside k count x y e = by (inside k count) e where
   by : (t : Bool) → Some y ≡ cond t (Some x) None → (t ≡ true) × (y ≡ x)
   by true e = (refl, cc)
-  by false e = let z : ◌≡◌ {A = ℕ} 0 1 = cc in absurd (omega arith)
+  by false e = cc
 
 -- a material of the book is told by the letter of its line, which lies within the bytes
 pub record MaterialThere (is_open : Bool) (bytes : List ℕ) (k : ℕ) : Type 0 where

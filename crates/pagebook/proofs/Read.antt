@@ -18,6 +18,7 @@ use Rattle.pagebook.specs.Reading.{number_shown, list_in, material_in, unit_in, 
 use Rattle.pagebook.specs.PageBooks.{Canonical}
 use Rattle.pagebook.proofs.Shown.{shown_number}
 use Rattle.pagebook.proofs.Climbs.{list_read}
+use Rattle.pagebook.proofs.Parts.{inputs_part, outputs_part, same_fitted}
 
 -- a material is read from its line
 pub material_read : (k : ℕ) (m : Material) → material_in (material_line k m) ≡ m
@@ -38,31 +39,6 @@ lists_within l (withheld f) w = (w.inputs, w.outputs)
 pub length_list : (l : ℕ) (xs : List ℕ) → l ≤ 512 → Listed l xs → length (list_bytes xs) ≡ list_width
 length_list l xs small h = length_list_bytes xs h.few (All-weaker (λ x. (1 ≤ x) × (x ≤ l)) (λ x. x < 100000) (λ x b. omega (arith, b.1)) xs h.known)
 
--- the lists of a unit's line, each as wide as it should be, stand in their places
-module _ (x k : ℕ) (a b : List ℕ) (few : k ≤ 512) (wide-a : length a ≡ list_width) (wide-b : length b ≡ list_width) where
-  -- such a line, from its letter, its number and the bytes of its lists
-  abbrev line_of : List ℕ
-  line_of = x ∷ (column number_width k ++ (a ++ (b ++ newline ∷ [])))
-
-  -- behind its number stand its lists
-  behind_number : drop number_width (column number_width k ++ (a ++ (b ++ newline ∷ []))) ≡ a ++ (b ++ newline ∷ [])
-  behind_number = drop_at (column number_width k) (a ++ (b ++ newline ∷ [])) number_width (length_column number_width k (fits_five k (omega arith)))
-
-  -- the first is where the inputs are read
-  inputs_there : inputs_in line_of ≡ a
-  inputs_there = ap (take list_width) behind_number ∙ take_at a (b ++ newline ∷ []) list_width wide-a
-
-  -- the second is where the outputs are
-  outputs_there : outputs_in line_of ≡ b
-  outputs_there =
-      let t = column number_width k ++ (a ++ (b ++ newline ∷ [])) in
-      ap (take list_width) (sym (drop-drop list_width number_width t) ∙ (ap (drop list_width) behind_number ∙ drop_at a (b ++ newline ∷ []) list_width wide-a))
-      ∙ take_at b (newline ∷ []) list_width wide-b
-
--- what a unit is fitted with is told by its two lists
-same_fitted : {a b c d : List ℕ} → a ≡ c → b ≡ d → ◌≡◌ {A = Fitted} (record { inputs = a; outputs = b }) (record { inputs = c; outputs = d })
-same_fitted p q = cc
-
 -- a number's state is read from its line
 pub unit_read : (l k : ℕ) (s : UnitState) → l ≤ 512 → k ≤ 512 → StateWithin l s → Rising 0 (inputs_of s) → Rising 0 (outputs_of s) → unit_in l (unit_line k s) ≡ s
 unit_read l k s hl hk w rising-in rising-out = by s parts.0 parts.1 where
@@ -72,9 +48,10 @@ unit_read l k s hl hk w rising-in rising-out = by s parts.0 parts.1 where
       let a = list_bytes (inputs_of s) in
       let b = list_bytes (outputs_of s) in
       let wide-a = length_list l (inputs_of s) hl within.0 in
-      let wide-b = length_list l (outputs_of s) hl within.1 in (
-        ap (list_in l) (inputs_there (state_letter s) k a b hk wide-a wide-b) ∙ list_read l (inputs_of s) hl within.0 rising-in,
-        ap (list_in l) (outputs_there (state_letter s) k a b hk wide-a wide-b) ∙ list_read l (outputs_of s) hl within.1 rising-out,
+      let wide-b = length_list l (outputs_of s) hl within.1 in
+      let five = length_column number_width k (fits_five k (omega arith)) in (
+        ap (list_in l) (inputs_part (state_letter s) (column number_width k) a b (newline ∷ []) five wide-a wide-b) ∙ list_read l (inputs_of s) hl within.0 rising-in,
+        ap (list_in l) (outputs_part (state_letter s) (column number_width k) a b (newline ∷ []) five wide-a wide-b) ∙ list_read l (outputs_of s) hl within.1 rising-out,
       )
 
   by : (s : UnitState) → list_in l (inputs_in (unit_line k s)) ≡ inputs_of s → list_in l (outputs_in (unit_line k s)) ≡ outputs_of s → unit_in l (unit_line k s) ≡ s

@@ -14,34 +14,8 @@ use Rattle.page.specs.Checked.{Rising}
 use Rattle.pagebook.specs.Reading.{list_in, state_by, unit_in}
 use Rattle.pagebook.specs.Writes.{refitted}
 use Rattle.pagebook.proofs.Climbs.{list_read}
+use Rattle.pagebook.proofs.Parts.{length_parts, number_part, inputs_part, outputs_part, behind_outputs, same_fitted}
 use Rattle.pagebook.proofs.Read.{lists_within, length_list}
-
--- a line by its parts: a letter, a number, two lists and what is behind them
-module _ (letter : ℕ) (number a b end : List ℕ) (five : length number ≡ 5) (wide-a : length a ≡ 40) (wide-b : length b ≡ 40) where
-  abbrev line : List ℕ
-  line = letter ∷ (number ++ (a ++ (b ++ end)))
-
-  length_parts : length line ≡ 86 + length end
-  length_parts = omega (arith, length-append number (a ++ (b ++ end)), length-append a (b ++ end), length-append b end)
-
-  number_part : take 5 (drop 1 line) ≡ number
-  number_part = take_at number (a ++ (b ++ end)) 5 five
-
-  -- what stands behind the number, and behind each list
-  behind_number : drop 6 line ≡ a ++ (b ++ end)
-  behind_number = drop_at number (a ++ (b ++ end)) 5 five
-
-  behind_inputs : drop 46 line ≡ b ++ end
-  behind_inputs = sym (drop-drop 40 6 line) ∙ (ap (drop 40) behind_number ∙ drop_at a (b ++ end) 40 wide-a)
-
-  behind_outputs : drop 86 line ≡ end
-  behind_outputs = sym (drop-drop 40 46 line) ∙ (ap (drop 40) behind_inputs ∙ drop_at b end 40 wide-b)
-
-  inputs_part : inputs_in line ≡ a
-  inputs_part = ap (take 40) behind_number ∙ take_at a (b ++ end) 40 wide-a
-
-  outputs_part : outputs_in line ≡ b
-  outputs_part = ap (take 40) behind_inputs ∙ take_at b end 40 wide-b
 
 -- the lists of a state
 abbrev pub lists_of : UnitState → Fitted
@@ -52,10 +26,6 @@ pub record Writable (l : ℕ) (s : UnitState) : Type 0 where
   pub within : StateWithin l s
   pub rising_inputs : Rising 0 (inputs_of s)
   pub rising_outputs : Rising 0 (outputs_of s)
-
--- what a unit is fitted with is told by its two lists
-same_fitted : {a b c d : List ℕ} → a ≡ c → b ≡ d → ◌≡◌ {A = Fitted} (record { inputs = a; outputs = b }) (record { inputs = c; outputs = d })
-same_fitted p q = cc
 
 -- a state is told by its letter and its lists
 state_again : (s : UnitState) (a b : List ℕ) → a ≡ inputs_of s → b ≡ outputs_of s → state_by (state_letter s) (record { inputs = a; outputs = b }) ≡ s

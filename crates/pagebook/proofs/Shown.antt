@@ -2,10 +2,12 @@
 use Rattle.std.proofs.Common.{◌≡◌, ℕ, zero, suc, ◌+◌, ◌-◌, ◌*◌, ◌/◌, ◌%◌, ◌^◌, ◌<◌, ◌≤◌, true, ◌&&◌, eqb, leb, List, [], ◌∷◌, ◌++◌, length, decimal, sym, refl, ap, ◌∙◌, subst, inl, inr, mul_assoc, mul_left_comm, arith}
 use native.Mathlib.Nat.{pow-succ'}
 use Rattle.std.proofs.lemmas.Bool.{le-leb, eq-eqb, eqb-true, and_from, and_parts, cond-true, cond-false, cases_Bool, cond_both, leb-true}
+use Rattle.std.specs.Prelude.{bytes_eq}
 use Rattle.std.proofs.lemmas.Fmt.{decimal_by_steps}
+use Rattle.std.proofs.lemmas.Slice.Eq.{bytes_eq-Decides}
 use Rattle.columns.specs.Columns.{blanks, column, Fits, Shows}
 use Rattle.columns.proofs.Laws.{small_64, fits_five, shown_not_blank}
-use Rattle.pagebook.specs.Reading.{digit, value_after, same_bytes, number_shown}
+use Rattle.pagebook.specs.Reading.{digit, value_after, number_shown}
 
 -- the digit that the byte of a digit stands for
 digit_of : (d : ℕ) → d < 10 → digit (48 + d) ≡ d
@@ -51,40 +53,24 @@ value_below n m (b ∷ bs) h =
     let e : m * 10 ^ suc (length bs) ≡ 10 * m * p = ap (λ q. m * q) (pow-succ' 10 (length bs)) ∙ (mul_left_comm m 10 p ∙ sym (mul_assoc 10 m p)) in
     subst (λ q. value_after n (b ∷ bs) < q) (sym e) (value_below (10 * n + digit b) (10 * m) bs (omega (arith, digit_below b)))
 
--- bytes are the same as themselves
-same_itself : (xs : List ℕ) → same_bytes xs xs ≡ true
-same_itself [] = refl
-same_itself (x ∷ xs) = and_from (eqb x x) (same_bytes xs xs) (eq-eqb x x refl) (same_itself xs)
-
--- and bytes that are said to be the same are
-same_if : (xs ys : List ℕ) → same_bytes xs ys ≡ true → xs ≡ ys
-same_if [] [] e = refl
-same_if [] (y ∷ ys) e = let z : ◌≡◌ {A = ℕ} 0 1 = cc in absurd (omega arith)
-same_if (x ∷ xs) [] e = let z : ◌≡◌ {A = ℕ} 0 1 = cc in absurd (omega arith)
-same_if (x ∷ xs) (y ∷ ys) e =
-    let both = and_parts (eqb x y) (same_bytes xs ys) e in
-    let first = eqb-true x y both.0 in
-    let rest = same_if xs ys both.1 in
-    cc
-
 -- where a field shows a number, that is the number read there
 pub shown_number : (field : List ℕ) (n : ℕ) → length field ≡ 5 → Shows field n → number_shown field ≡ n
 unfolding number_shown
 shown_number field n wide s =
     let value : value_after 0 field ≡ n = ap (value_after 0) s.written ∙ value_column (length field) n s.fits.small in
     let written : field ≡ column (length field) (value_after 0 field) = s.written ∙ ap (column (length field)) (sym value) in
-    let same : same_bytes field (column (length field) (value_after 0 field)) ≡ true = subst (λ (bs : List ℕ). same_bytes field bs ≡ true) written (same_itself field) in
-    cond-true (same_bytes field (column (length field) (value_after 0 field))) (value_after 0 field) 0 same ∙ value
+    let same = (bytes_eq-Decides field (column (length field) (value_after 0 field))).1 written in
+    cond-true (bytes_eq field (column (length field) (value_after 0 field))) (value_after 0 field) 0 same ∙ value
 
 -- where it shows none, 0 is
 pub none_shown : (field : List ℕ) → length field ≡ 5 → ((n : ℕ) → Shows field n → ⊥) → number_shown field ≡ 0
 unfolding number_shown
 none_shown field wide none =
     let v = value_after 0 field in
-    let same = same_bytes field (column (length field) v) in
+    let same = bytes_eq field (column (length field) v) in
     let few : v < 100000 = subst (λ w. v < 1 * 10 ^ w) wide (value_below 0 1 field (omega arith)) in
     elim (cases_Bool same) [
-      | inl t ↦ absurd (none v (record { fits = subst (λ w. Fits w v) (sym wide) (fits_five v few); written = same_if field (column (length field) v) t }))
+      | inl t ↦ absurd (none v (record { fits = subst (λ w. Fits w v) (sym wide) (fits_five v few); written = (bytes_eq-Decides field (column (length field) v)).0 t }))
       | inr f ↦ cond-false same v 0 f
     ]
 

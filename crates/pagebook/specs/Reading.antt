@@ -1,6 +1,6 @@
 -- What bytes mean as a page. Every list of bytes has a meaning, so that a page book can be asked whatever it stands over;
 -- on the page of a book it is that book, which is proved where a page book is opened.
-use Rattle.std.specs.Prelude.{ℕ, zero, suc, ◌+◌, ◌-◌, ◌*◌, Bool, true, false, cond, ◌&&◌, ◌||◌, List, [], ◌∷◌, map, length, take, drop, ◌==◌, nat_le, slice_index}
+use Rattle.std.specs.Prelude.{ℕ, zero, suc, ◌+◌, ◌-◌, ◌*◌, Bool, true, false, cond, ◌&&◌, ◌||◌, List, [], ◌∷◌, map, length, take, drop, ◌==◌, nat_le, slice_index, bytes_eq}
 use Rattle.std.specs.List.{range_with_len}
 use Rattle.book.specs.Meaning.{Material, Fitted, UnitState, free, standing, withheld, Meaning}
 use Rattle.book.specs.Climbing.{climbing}
@@ -17,15 +17,9 @@ abbrev pub value_after : ℕ → List ℕ → ℕ
 value_after n [] = n
 value_after n (b ∷ bs) = value_after (10 * n + digit b) bs
 
-abbrev pub same_bytes : List ℕ → List ℕ → Bool
-same_bytes [] [] = true
-same_bytes [] (y ∷ ys) = false
-same_bytes (x ∷ xs) [] = false
-same_bytes (x ∷ xs) (y ∷ ys) = x == y && same_bytes xs ys
-
 -- the number that a field shows, exactly as it is written there; 0 where the field shows none
 unfoldable pub number_shown : List ℕ → ℕ
-number_shown field = cond (same_bytes field (column (length field) (value_after 0 field))) (value_after 0 field) 0
+number_shown field = cond (bytes_eq field (column (length field) (value_after 0 field))) (value_after 0 field) 0
 
 -- the numbers in so many fields, one after another
 abbrev pub numbers_in : List ℕ → ℕ → List ℕ

@@ -6,7 +6,7 @@ use Rattle.pagebook.proofs.is_page.Goals as goal
 
 accepted : (bytes : List ℕ) (r : Result (ℕ × ℕ) PageFault) → Checked bytes r → is_ok r ≡ true → SomePage bytes
 accepted bytes (Ok counts) told e = (counts.0, counts.1, told)
-accepted bytes (Err fault) told e = let z : ◌≡◌ {A = ℕ} 0 1 = cc in absurd (omega arith)
+accepted bytes (Err fault) told e = cc
 
 pub returns : goal.returns
 returns c =
