@@ -1,5 +1,5 @@
 -- The list that the fields of a list stand for: how it is read, and what it keeps to. Assumes nothing.
-use Rattle.std.proofs.Common.{◌≡◌, ℕ, zero, suc, ◌+◌, ◌-◌, ◌*◌, ◌<◌, ◌≤◌, List, [], ◌∷◌, ◌++◌, length, get_or, take, drop, refl, ap, ◌∙◌, inl, arith}
+use Rattle.std.proofs.Common.{◌≡◌, ℕ, zero, suc, ◌+◌, ◌*◌, ◌<◌, ◌≤◌, List, [], ◌∷◌, ◌++◌, length, get_or, take, drop, refl, ap, ◌∙◌, inl, arith}
 use Rattle.std.specs.List.{AllByRecursion}
 use Rattle.std.proofs.lemmas.List.{take_at, drop_at, drop-drop}
 use Rattle.book.specs.Meaning.{Listed}
@@ -14,15 +14,11 @@ use Rattle.pagebook.specs.Reading.{number_shown, numbers_in, list_in}
 use Rattle.pagebook.specs.PageLaws.{climbing_on, climbing_off, climbing_by, climbing_short, length_numbers}
 use Rattle.pagebook.proofs.Shown.{shown_number, blank_shown}
 
--- they rise
-pub climbing_rises : (last highest : ℕ) (xs : List ℕ) → Rising last (climbing last highest xs)
-climbing_rises last highest xs = climbing_by highest (λ last xs ys. Rising last ys) (λ last xs. tt) (λ last x xs ys above below h. (above, h)) last xs
-
 -- the second list is a front of the first, place by place
 abbrev Front : List ℕ → List ℕ → Type 0
 Front xs ys = (k : ℕ) → k < length ys → get_or ys k 0 ≡ get_or xs k 0
 
--- and the k-th number on the list is the k-th of all
+-- such is a list that climbs: its k-th number is the k-th of all
 pub climbing_at : (last highest : ℕ) (xs : List ℕ) (k : ℕ) → k < length (climbing last highest xs) → get_or (climbing last highest xs) k 0 ≡ get_or xs k 0
 climbing_at last highest = climbing_by highest (λ last xs ys. Front xs ys) (λ last xs k h. absurd (omega arith)) more last where
   more : (last x : ℕ) (xs ys : List ℕ) → last < x → x ≤ highest → Front xs ys → Front (x ∷ xs) (x ∷ ys)
@@ -38,14 +34,6 @@ numbers_at bytes (suc c) (suc k) h =
     numbers_at (drop number_width bytes) c k (omega arith)
     ∙ ap (λ (bs : List ℕ). number_shown (take number_width bs)) (drop-drop (number_width * k) number_width bytes ∙ ap (λ i. drop i bytes) place)
 
--- what is read from field n on: the number in that field, and what is read from the next on
-pub numbers_from : (bytes : List ℕ) (c n : ℕ) → n < c → numbers_in (drop (number_width * n) bytes) (c - n) ≡ number_shown (take number_width (drop (number_width * n) bytes)) ∷ numbers_in (drop (number_width * (n + 1)) bytes) (c - (n + 1))
-numbers_from bytes c n h =
-    let left : c - n ≡ suc (c - (n + 1)) = omega arith in
-    let place : number_width * n + number_width ≡ number_width * (n + 1) = omega arith in
-    let after : drop number_width (drop (number_width * n) bytes) ≡ drop (number_width * (n + 1)) bytes = drop-drop number_width (number_width * n) bytes ∙ ap (λ i. drop i bytes) place in
-    cc
-
 -- a field in front of others
 pub numbers_first : (part rest : List ℕ) (c : ℕ) → length part ≡ number_width → numbers_in (part ++ rest) (suc c) ≡ number_shown part ∷ numbers_in rest c
 numbers_first part rest c wide =
@@ -53,12 +41,7 @@ numbers_first part rest c wide =
     let others = drop_at part rest number_width wide in
     cc
 
--- it rises
-pub list_rising : (l : ℕ) (bytes : List ℕ) → Rising 0 (list_in l bytes)
-unfolding list_in
-list_rising l bytes = climbing_rises 0 l (numbers_in bytes list_fields)
-
--- and its k-th number is the one in the k-th field
+-- so the k-th number of the list is the one in the k-th field
 pub list_at : (l : ℕ) (bytes : List ℕ) (k : ℕ) → k < length (list_in l bytes) → get_or (list_in l bytes) k 0 ≡ number_shown (take number_width (drop (number_width * k) bytes))
 unfolding list_in
 list_at l bytes k h =

@@ -3,14 +3,14 @@
 use Rattle.std.proofs.Common.{◌≡◌, ℕ, ◌-◌, ◌≤◌, List, length, take, drop, sym, ap, ◌∙◌, inl, inr, arith}
 use Rattle.std.proofs.lemmas.List.{set-get_or}
 use Rattle.std.proofs.ByRecursion.{All-get_or}
-use Rattle.book.specs.Meaning.{Material, UnitState, free, Meaning, material_count, unit_count, StateWithin, WellFormed}
+use Rattle.book.specs.Meaning.{Material, UnitState, free, Meaning, material_count, StateWithin, WellFormed}
 use Rattle.book.specs.Declined.{state_at}
 use Rattle.book.specs.Asked.{plain, material_at}
 use Rattle.book.specs.Edits.{with_unit, with_material}
 use Rattle.page.specs.Layout.{material, unit, line_start, line_bytes}
 use Rattle.page.specs.Format.{material_line, unit_line, page_of}
 use Rattle.page.proofs.Lines.{length_material_line, length_unit_line}
-use Rattle.pagebook.specs.Reading.{material_in, unit_in, materials_on, units_on, material_on, unit_on, of_page}
+use Rattle.pagebook.specs.Reading.{material_in, unit_in, materials_on, units_on, of_page}
 use Rattle.pagebook.specs.PageBooks.{extent, Canonical}
 use Rattle.pagebook.specs.Writes.{over}
 use Rattle.pagebook.proofs.Overwritten.{part_over}

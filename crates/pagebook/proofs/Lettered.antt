@@ -5,20 +5,12 @@ use Rattle.std.proofs.lemmas.Bool.{ne_eqb}
 use Rattle.book.specs.declared.books.Class.{Class}
 use Rattle.book.specs.declared.books.State.{State}
 use Rattle.book.specs.declared.books.State.TheVariants.{Free, Standing, Withheld}
-use Rattle.book.specs.Meaning.{Material, Fitted, standing, withheld}
-use Rattle.page.specs.Format.{class_letter, material_line, unit_line}
+use Rattle.book.specs.Meaning.{Material, Fitted}
+use Rattle.page.specs.Format.{class_letter, material_line}
 use Rattle.page.specs.Letters.{letter_of_state, StandsFor}
 use Rattle.page.specs.Rules.{inputs_in, outputs_in}
 use Rattle.pagebook.specs.Reading.{list_in, material_in, state_by, unit_in}
 use Rattle.pagebook.specs.Places.{class_of, kind_of}
-
--- 'W' over the letter of a standing unit withholds it
-pub letter_line : (k : ℕ) (f : Fitted) → set (unit_line k (standing f)) 0 87 ≡ unit_line k (withheld f)
-letter_line k f = refl
-
--- 'S' over the letter of a withheld unit makes it stand again
-pub letter_back : (k : ℕ) (f : Fitted) → set (unit_line k (withheld f)) 0 83 ≡ unit_line k (standing f)
-letter_back k f = refl
 
 -- a unit's line with another letter means the state of that letter, with the lists that the line had
 pub letter_in : (l : ℕ) (line : List ℕ) (b : ℕ) → 0 < length line → unit_in l (set line 0 b) ≡ state_by b (record { inputs = list_in l (inputs_in line); outputs = list_in l (outputs_in line) })

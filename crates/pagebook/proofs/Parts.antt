@@ -1,13 +1,8 @@
 -- Parts of the bytes at computed places, and a unit's line by its parts. Assumes nothing.
-use Rattle.std.proofs.Common.{◌≡◌, ℕ, ◌+◌, ◌-◌, ◌<◌, ◌≤◌, List, ◌∷◌, ◌++◌, length, get_or, take, drop, sym, ap, ◌∙◌, subst, add-zero, arith, length-append}
-use Rattle.std.proofs.lemmas.List.{length-drop, length-take-le, take_at, drop_at, get_or-take, get_or-drop, take-take, drop-take, drop-drop}
+use Rattle.std.proofs.Common.{◌≡◌, ℕ, ◌+◌, ◌-◌, ◌<◌, ◌≤◌, List, ◌∷◌, ◌++◌, length, get_or, take, drop, sym, ap, ◌∙◌, add-zero, arith, length-append}
+use Rattle.std.proofs.lemmas.List.{take_at, drop_at, get_or-take, get_or-drop, take-take, drop-take, drop-drop}
 use Rattle.book.specs.Meaning.{Fitted}
-use Rattle.page.specs.Layout.{number_width}
 use Rattle.page.specs.Rules.{inputs_in, outputs_in}
-
--- a field that lies within the bytes has all its columns
-pub length_field : (bytes : List ℕ) (start : ℕ) → start + number_width ≤ length bytes → length (take number_width (drop start bytes)) ≡ number_width
-length_field bytes start h = length-take-le number_width (drop start bytes) (subst (λ n. number_width ≤ n) (sym (length-drop start bytes)) (omega arith))
 
 -- a part of a part of the bytes
 pub part_of_part : (bytes : List ℕ) (start width at size : ℕ) → at + size ≤ width → take size (drop at (take width (drop start bytes))) ≡ take size (drop (start + at) bytes)

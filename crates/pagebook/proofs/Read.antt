@@ -2,9 +2,9 @@
 use Rattle.std.proofs.Common.{◌≡◌, ℕ, ◌+◌, ◌<◌, ◌≤◌, Bool, true, false, ◌&&◌, leb, List, [], ◌∷◌, ◌++◌, map, length, take, drop, sym, refl, ap, ◌∙◌, arith, length-append}
 use Rattle.std.specs.List.{range_with_len, AllByRecursion}
 use Rattle.std.proofs.ByRecursion.{All-weaker}
-use Rattle.std.proofs.lemmas.List.{append_assoc, append-nil, take_at, drop_at, drop-drop}
+use Rattle.std.proofs.lemmas.List.{append_assoc, append-nil, take_at, drop_at}
 use Rattle.std.proofs.lemmas.Bool.{le-leb, and_from, cond-true}
-use Rattle.book.specs.Meaning.{Material, Fitted, UnitState, free, standing, withheld, Meaning, material_count, unit_count, Listed, StateWithin, WellFormed}
+use Rattle.book.specs.Meaning.{Material, UnitState, free, standing, withheld, Meaning, material_count, unit_count, Listed, StateWithin, WellFormed}
 use Rattle.columns.specs.Columns.{column}
 use Rattle.columns.proofs.Laws.{fits_five, length_column, shows_column}
 use Rattle.page.specs.Layout.{number_width, list_width, most, material, unit, line_start, line_bytes, page_length}

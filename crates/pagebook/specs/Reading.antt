@@ -1,6 +1,6 @@
 -- What bytes mean as a page. Every list of bytes has a meaning, so that a page book can be asked whatever it stands over;
 -- on the page of a book it is that book, which is proved where a page book is opened.
-use Rattle.std.specs.Prelude.{ℕ, zero, suc, ◌+◌, ◌-◌, ◌*◌, Bool, true, false, cond, ◌&&◌, ◌||◌, List, [], ◌∷◌, map, length, take, drop, ◌==◌, nat_le, slice_index, bytes_eq}
+use Rattle.std.specs.Prelude.{ℕ, zero, suc, ◌+◌, ◌-◌, ◌*◌, Bool, cond, ◌&&◌, ◌||◌, List, [], ◌∷◌, map, length, take, drop, ◌==◌, nat_le, slice_index, bytes_eq}
 use Rattle.std.specs.List.{range_with_len}
 use Rattle.book.specs.Meaning.{Material, Fitted, UnitState, free, standing, withheld, Meaning}
 use Rattle.book.specs.Climbing.{climbing}

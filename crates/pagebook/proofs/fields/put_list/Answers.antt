@@ -1,10 +1,8 @@
--- Blank fields are those of no number, each turn adds a number to them, and in the end they hold the whole list.
+-- Each turn adds a number to the fields.
 use Rattle.std.proofs.Common.{ℕ, ◌*◌, ◌<◌, List, get_or, ap, ◌∙◌, arith}
 use Rattle.std.specs.List.{AllByRecursion}
 use Rattle.std.proofs.ByRecursion.{All-from_get_or}
-use Rattle.std.proofs.lemmas.List.{take_all}
-use Rattle.columns.specs.Columns.{blanks, column}
-use Rattle.page.specs.Format.{list_bytes}
+use Rattle.columns.specs.Columns.{column}
 use Rattle.pagebook.specs.Writes.{over}
 use Rattle.pagebook.proofs.Filling.{list_step}
 use Rattle.pagebook.proofs.fields.put_list.Goals as goal
@@ -13,9 +11,6 @@ use Rattle.pagebook.proofs.fields.put_list.Goals as goal
 small : (xs : List ℕ) → ((i : ℕ) → get_or xs i 0 < 65536) → AllByRecursion (λ x. x < 100000) xs
 small xs each = All-from_get_or (λ x. x < 100000) xs 0 (λ i h. omega (arith, each i))
 
-pub loop-place-init : goal.loop-place-init
-loop-place-init c = c.fill.ensures.after (λ y same. same) ∙ ap blanks c.requires.within
-
 pub loop-place-preserved : goal.loop-place-preserved
 loop-place-preserved c =
     let xs = c.args.list.now in
@@ -23,6 +18,3 @@ loop-place-preserved c =
     c.put_number.ensures
     ∙ (ap (over (5 * i) (column 5 (get_or xs i 0))) c.loop-place.invariant
     ∙ list_step xs i c.requires.few (small xs (λ j. omega (arith, c.type_inv.list j))) c.loop-place-test.true)
-
-pub returns : goal.returns
-returns c = c.loop-place.invariant ∙ ap list_bytes (take_all c.loop-place.place c.args.list.now c.loop-place-test.false)
