@@ -6,6 +6,7 @@ ghost use Rattle.page.specs.Checked.{SomePage};
 ghost use Rattle.page.specs.Faults.{Refused};
 ghost use Rattle.pagebook.specs.PageBooks.{page_meaning, Opened};
 
+mod counts;
 mod edits;
 mod fields;
 mod lines;
@@ -14,9 +15,9 @@ mod questions;
 
 #[derive(Drop)]
 pub struct PageBook<'a> {
-    // The bytes of a refused page stay lent to the book, so they stand beside the flag and not under it.
     bytes: &'a mut [u8],
-    // Whether the bytes were a page when the book was opened. One that is not open is the empty book.
+    // Whether the bytes were a page when the book was opened; one that is not open is the empty book. The flag stands beside
+    // the bytes, since those of a refused page stay lent to the book too.
     open: bool,
 }
 

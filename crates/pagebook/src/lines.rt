@@ -1,21 +1,18 @@
-// The lines of a page book: where each begins, and what its letter says. A book that is not open has none.
-ghost use Rattle.std.specs.Prelude.{◌≡◌, ◌+◌, ◌≤◌, ◌&&◌, [], ◌∷◌, length, take, drop, IfOk, IfSome, Some, None, MatchOption, nat_le};
+// The lines of a page book: where each begins, and what its letter and its lists say.
+ghost use Rattle.std.specs.Prelude.{◌≡◌, ◌+◌, ◌≤◌, [], ◌∷◌, length, IfOk, IfSome, Some, None, MatchOption};
 ghost use Rattle.book.specs.Meaning.{Fitted, material_count, unit_count};
-ghost use Rattle.book.specs.Declined.{inside};
 ghost use Rattle.book.specs.Asked.{where_inside, fitted_at, list_on, material_at};
-ghost use Rattle.page.specs.Layout.{list_width, most, line_length, line_start, page_length};
-ghost use Rattle.page.specs.Layout.{material as line_of_material, unit as line_of_unit};
-ghost use Rattle.pagebook.specs.Reading.{list_in, materials_on, units_on, material_in, state_by};
+ghost use Rattle.page.specs.Layout.{list_width, line_length, line_start};
+ghost use Rattle.page.specs.Layout.{material as line_of_material};
+ghost use Rattle.pagebook.specs.Reading.{list_in, material_in, state_by};
 ghost use Rattle.pagebook.specs.PageBooks.{page_meaning};
 ghost use Rattle.pagebook.specs.Places.{class_of, kind_of, line_of, LineWithin, lists_in, side_column};
 ghost use Rattle.pagebook.specs.Writes.{withheld_line};
 
 use crate::PageBook;
-use crate::fields::number_at;
+use crate::counts::within;
 use book::{Class, Refusal, Side, State};
-use page::layout::{
-    COUNTS_LINE, INPUTS, LIST, MOST, NUMBER, OUTPUTS, material_start, page_length, unit_start,
-};
+use page::layout::{INPUTS, LIST, OUTPUTS, material_start, unit_start};
 use page::letters::Lettered;
 
 // The line of a unit number: where it begins, the state that its letter tells, and how many materials its lists may name.
@@ -36,13 +33,6 @@ fn column(side: Side) -> usize
     }
 }
 
-// Whether a number is one of 1 to `count`.
-pub(crate) fn within(number: u16, count: u16) -> bool
-    ensures { result ≡ inside number count }
-{
-    (1..=count).contains(&number)
-}
-
 // The class that the letter of a material's line tells; any other letter is plain.
 fn class_told(letter: u8) -> Class
     ensures { result ≡ class_of (material_in (letter ∷ [])) }
@@ -57,46 +47,7 @@ fn state_told(letter: u8) -> State
     State::of_letter(letter).unwrap_or(State::Free)
 }
 
-// Whether a page with these counts could stand in so many bytes.
-fn has_room(size: usize, materials: u32, units: u32) -> bool
-    ensures { result ≡ (nat_le materials most && (nat_le units most && nat_le (page_length materials units) size)) }
-{
-    materials <= MOST as u32
-        && units <= MOST as u32
-        && page_length(materials as u16, units as u16) <= size
-}
-
-// How many materials and unit numbers the first line shows; none of either where no page with such counts could stand in
-// the bytes.
-fn counts_shown(bytes: &[u8]) -> (u16, u16)
-    ensures materials { result.0 ≡ materials_on bytes.now }
-    ensures units { result.1 ≡ units_on bytes.now }
-{
-    if bytes.len() < COUNTS_LINE {
-        return (0, 0);
-    }
-    let materials = number_at(bytes, 0);
-    let units = number_at(bytes, NUMBER);
-    if has_room(bytes.len(), materials, units) {
-        (materials as u16, units as u16)
-    } else {
-        (0, 0)
-    }
-}
-
 impl PageBook<'_> {
-    // How many materials and unit numbers the book has.
-    pub(crate) fn counts(&self) -> (u16, u16)
-        ensures materials { result.0 ≡ material_count (page_meaning self.now) }
-        ensures units { result.1 ≡ unit_count (page_meaning self.now) }
-    {
-        if self.open {
-            counts_shown(self.bytes)
-        } else {
-            (0, 0)
-        }
-    }
-
     // Where the line of a material begins.
     pub(crate) fn material_line(&self, material: u16) -> Option<usize>
         ensures line { result ≡ where_inside material (material_count (page_meaning self.now)) (line_start 0 (line_of_material material)) }

@@ -4,8 +4,8 @@ ghost use Rattle.book.specs.Asked.{where_inside};
 ghost use Rattle.page.specs.Layout.{list_width};
 ghost use Rattle.pagebook.specs.Reading.{list_in};
 
+use crate::counts::within;
 use crate::fields::{number_at, number_in};
-use crate::lines::within;
 use page::layout::{LIST_FIELDS, NUMBER};
 
 // How many entries the list has: as many of its fields as hold materials in ascending order.

@@ -2,7 +2,7 @@
 use Rattle.std.proofs.Common.{◌≡◌, true, false, ◌∙◌}
 use Rattle.pagebook.specs.Reading.{room}
 use Rattle.pagebook.proofs.Answering.{room_test, with_room, without_room, too_short}
-use Rattle.pagebook.proofs.lines.counts_shown.Goals as goal
+use Rattle.pagebook.proofs.counts.counts_shown.Goals as goal
 
 pub returns-then-bytes-lt-COUNTS_LINE : goal.returns-then-bytes-lt-COUNTS_LINE
 returns-then-bytes-lt-COUNTS_LINE c =
