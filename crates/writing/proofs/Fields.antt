@@ -26,30 +26,32 @@ listed_full c xs full =
     ap (λ k. number_fields xs ++ blanks k) none ∙ append-nil (number_fields xs)
 
 -- a list and a blank field more
-listed_blank : (c : ℕ) (xs : List ℕ) → length xs ≤ c → listed (c + 1) xs ≡ listed c xs ++ blanks 5
-listed_blank c xs room =
-    let sum : 5 * (c + 1 - length xs) ≡ 5 * (c - length xs) + 5 = omega arith in
-    let split : blanks (5 * (c + 1 - length xs)) ≡ blanks (5 * (c - length xs)) ++ blanks 5 = ap blanks sum ∙ sym (replicate-append-replicate (5 * (c - length xs)) 5 32) in
+listed_blank : (c d : ℕ) (xs : List ℕ) → d ≡ c + 1 → length xs ≤ c → listed d xs ≡ listed c xs ++ blanks 5
+listed_blank c d xs next room =
+    let sum : 5 * (d - length xs) ≡ 5 * (c - length xs) + 5 = omega arith in
+    let split : blanks (5 * (d - length xs)) ≡ blanks (5 * (c - length xs)) ++ blanks 5 = ap blanks sum ∙ sym (replicate-append-replicate (5 * (c - length xs)) 5 32) in
     ap (λ t. number_fields xs ++ t) split ∙ sym (append_assoc (number_fields xs) (blanks (5 * (c - length xs))) (blanks 5))
 
--- the first fields of a list, and one more
-pub listed_step : (k : ℕ) (xs : List ℕ) → listed k (take k xs) ++ field_bytes (entry_of xs (k + 1)) ≡ listed (k + 1) (take (k + 1) xs)
-listed_step k xs = elim (cases_lt k (length xs)) [
-  | inl h ↦
-      let x = get_or xs k 0 in
-      let before : listed k (take k xs) ≡ number_fields (take k xs) = listed_full k (take k xs) (length-take-le k xs (omega arith)) in
-      let field : field_bytes (entry_of xs (k + 1)) ≡ column 5 x = ap field_bytes (entry_some xs k h) in
-      let after : listed (k + 1) (take (k + 1) xs) ≡ number_fields (take (k + 1) xs) = listed_full (k + 1) (take (k + 1) xs) (length-take-le (k + 1) xs (omega arith)) in
-      let more : number_fields (take (k + 1) xs) ≡ number_fields (take k xs) ++ column 5 x = ap number_fields (take_more xs k 0 h) ∙ number_fields_push (take k xs) x in
+-- the first fields, and the one at the next place
+pub listed_step : (place : ℕ) (xs : List ℕ) → 1 ≤ place → listed (place - 1) (take (place - 1) xs) ++ field_bytes (entry_of xs place) ≡ listed place (take place xs)
+listed_step place xs low = elim (cases_lt (length xs) place) [
+  | inl above ↦
+      let before : take (place - 1) xs ≡ xs = take_all (place - 1) xs (omega arith) in
+      let field : field_bytes (entry_of xs place) ≡ blanks 5 = ap field_bytes (entry_none xs place above) in
+      let after : take place xs ≡ xs = take_all place xs (omega arith) in
+      let more = listed_blank (place - 1) place xs (omega arith) (omega arith) in
       cc
-  | inr h ↦
-      let before : take k xs ≡ xs = take_all k xs h in
-      let field : field_bytes (entry_of xs (k + 1)) ≡ blanks 5 = ap field_bytes (entry_none xs k h) in
-      let after : take (k + 1) xs ≡ xs = take_all (k + 1) xs (omega arith) in
-      let more = listed_blank k xs h in
+  | inr high ↦
+      let x = get_or xs (place - 1) 0 in
+      let next : place - 1 + 1 ≡ place = omega arith in
+      let before : listed (place - 1) (take (place - 1) xs) ≡ number_fields (take (place - 1) xs) = listed_full (place - 1) (take (place - 1) xs) (length-take-le (place - 1) xs (omega arith)) in
+      let field : field_bytes (entry_of xs place) ≡ column 5 x = ap field_bytes (entry_some xs place low high) in
+      let after : listed place (take place xs) ≡ number_fields (take place xs) = listed_full place (take place xs) (length-take-le place xs high) in
+      let more : take place xs ≡ take (place - 1) xs ++ x ∷ [] = ap (λ k. take k xs) (sym next) ∙ take_more xs (place - 1) 0 (omega arith) in
+      let fields : number_fields (take place xs) ≡ number_fields (take (place - 1) xs) ++ column 5 x = ap number_fields more ∙ number_fields_push (take (place - 1) xs) x in
       cc
 ]
 
 -- all eight
-pub listed_all : (k : ℕ) (xs : List ℕ) → k ≡ 8 → length xs ≤ 8 → listed k (take k xs) ≡ list_bytes xs
-listed_all k xs end few = ap (λ c. listed c (take c xs)) end ∙ ap (listed 8) (take_all 8 xs few)
+pub listed_all : (xs : List ℕ) → length xs ≤ 8 → listed 8 (take 8 xs) ≡ list_bytes xs
+listed_all xs few = ap (listed 8) (take_all 8 xs few)

@@ -1,5 +1,4 @@
-pub mod Putting
 pub mod Answered
-pub mod Rising
 pub mod Fields
 pub mod Numbering
+pub mod Putting

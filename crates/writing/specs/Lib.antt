@@ -1,3 +1,2 @@
 pub mod WrittenOut
-pub mod Put
 pub mod Told

@@ -3,11 +3,10 @@
 use Rattle.std.specs.Prelude.{ℕ, ◌-◌, false, List, [], length, Some, None, Option, slice_index}
 use Rattle.std.specs.Option.{unwrap_or}
 use Rattle.book.specs.Meaning.{Material, Fitted, UnitState, free, standing, Meaning}
-use Rattle.book.specs.Asked.{where_inside, wanted_at, bought_at, fitted_at}
+use Rattle.book.specs.declared.books.Side.{Side}
+use Rattle.book.specs.Asked.{where_inside, wanted_at, bought_at, fitted_at, list_on}
 use Rattle.columns.specs.Columns.{blanks, column}
 use Rattle.page.specs.Layout.{number_width}
-use Rattle.writing.specs.declared.side.Side.{Side}
-use Rattle.writing.specs.declared.side.Side.TheVariants.{Inputs, Outputs}
 
 -- a material, as the page has it
 abbrev pub told_material : ℕ → Meaning → Material
@@ -24,8 +23,7 @@ told_state k m = state_from (fitted_at k m)
 -- its list on one side
 abbrev pub list_from : Side → Option Fitted → List ℕ
 list_from side None = []
-list_from Inputs (Some f) = f.inputs
-list_from Outputs (Some f) = f.outputs
+list_from side (Some f) = list_on side f
 
 abbrev pub told_list : Side → ℕ → Meaning → List ℕ
 told_list side k m = list_from side (fitted_at k m)

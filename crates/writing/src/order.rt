@@ -4,8 +4,7 @@ ghost use Rattle.book.specs.Meaning.{unit_count};
 ghost use Rattle.writing.specs.WrittenOut.{rises, lists_rise, all_rise};
 ghost use Rattle.writing.specs.Told.{told_list, told_state};
 
-use crate::side::Side;
-use book::Book;
+use book::{Book, Side};
 use page::layout::LIST_FIELDS;
 
 // Whether the lists of every standing unit are strictly ascending, in a book with so many unit numbers.
@@ -14,8 +13,8 @@ pub(crate) fn lists_rise<B: Book>(book: &mut B, units: u16) -> bool
     ensures answer { result ≡ all_rise (B.Book.meaning book.old).units }
     ensures same { book.new ≡ book.old }
 {
-    for seen in 0..units {
-        if !unit_rises(book, seen + 1) {
+    for unit in 1..=units {
+        if !unit_rises(book, unit) {
             return false;
         }
     }
@@ -36,8 +35,8 @@ fn list_rises<B: Book>(book: &mut B, unit: u16, side: Side) -> bool
     ensures same { book.new ≡ book.old }
 {
     let mut last = 0;
-    for seen in 0..LIST_FIELDS as u16 {
-        if let Some(number) = side.entry(book, unit, seen + 1) {
+    for place in 1..=LIST_FIELDS as u16 {
+        if let Some(number) = book.entry(unit, side, place) {
             if number <= last {
                 return false;
             }
