@@ -1,7 +1,7 @@
 // Pages to try the planner on.
 #![tactic(auto)]
 
-ghost use Rattle.std.specs.Prelude.{◌≡◌, take, IfOk};
+ghost use Rattle.std.specs.Prelude.{◌≡◌, take, drop, IfOk};
 ghost use Rattle.samples.specs.Patched.{patched_with};
 
 use std::alloc::{AllocError, Global};
@@ -23,19 +23,20 @@ pub const BLANK_FARM: &[u8] =
 pub fn front<T>(items: &[T], count: usize) -> &[T]
     ensures { result.now ≡ take count items.now }
 {
-    let (front, _) = items.split_at(count.min(items.len()));
-    front
+    items.get(..count).unwrap_or(items)
+}
+
+// The items behind the first so many, or none where there are no more.
+fn rest<T>(items: &[T], count: usize) -> &[T]
+    ensures { result.now ≡ drop count items.now }
+{
+    items.get(count..).unwrap_or(&[])
 }
 
 // The page with other bytes from `at` on; past its end they are added.
 pub fn patched(heap: Global, page: &[u8], at: usize, patch: &[u8]) -> Result<Vec<u8>, AllocError>
     ensures { IfOk result (λ v. v.items ≡ patched_with page.now at patch.now) }
 {
-    let (front, back) = page.split_at(at.min(page.len()));
-    let (_, rest) = back.split_at(patch.len().min(back.len()));
-    let mut bytes = Vec::new(heap);
-    bytes.extend_from_slice(front)?;
-    bytes.extend_from_slice(patch)?;
-    bytes.extend_from_slice(rest)?;
-    Ok(bytes)
+    let behind = rest(rest(page, at), patch.len());
+    [front(page, at), patch, behind].concat(heap)
 }
