@@ -1,6 +1,6 @@
 -- What the questions of a book tell, number by number. Assumes nothing.
 use Rattle.std.proofs.Common.{◌≡◌, ℕ, ◌-◌, ◌<◌, ◌≤◌, true, false, leb, List, [], length, get_or, Some, None, Option, unwrap_or, refl, ap, ◌∙◌, ap₂, sym, arith}
-use Rattle.std.proofs.ByRecursion.{All-get_or}
+use Rattle.std.proofs.lemmas.List.Elements.{All-from_recursion}
 use Rattle.std.proofs.lemmas.Bool.{le-leb, lt-leb, leb-true, and_from, and_parts, and_right, cond-true, cond-false, cond_both}
 use Rattle.book.specs.declared.books.Side.{Side}
 use Rattle.book.specs.declared.books.Side.TheVariants.{Inputs, Outputs}
@@ -77,5 +77,5 @@ few_told m side k w =
     let low : 1 ≤ k = leb-true 1 k both.0 in
     let high : k ≤ n = leb-true k n both.1 in
     let here : k - 1 < n = omega arith in
-    list_few l side (get_or m.units (k - 1) free) (All-get_or (StateWithin l) m.units (k - 1) free here w.lists))
+    list_few l side (get_or m.units (k - 1) free) (All-from_recursion (StateWithin l) m.units w.lists (k - 1) free here))
     (λ e. omega arith)

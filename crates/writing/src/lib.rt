@@ -58,13 +58,15 @@ fn put_page<B: Book>(book: &mut B, page: &mut [u8], materials: u16, units: u16)
     put_units(book, unit_lines, units);
 }
 
-// Puts the lines of all materials.
+// Puts the lines of all materials. One function for these and for the units' lines would be told how a line is put, and
+// would have to say of that all that is said of put_material and put_unit.
 fn put_materials<B: Book>(book: &mut B, lines: &mut [u8], materials: u16)
     requires count { materials ≡ material_count (B.Book.meaning book.old) }
     requires size { length lines.old ≡ 7 * materials }
     ensures put { lines.new ≡ numbered material_line 1 (B.Book.meaning book.old).materials }
     ensures same { book.new ≡ book.old }
 {
+    // A range: of chunks that were lent for writing it is not known what they hold.
     for material in 1..=materials {
         let start = MATERIAL_LINE * usize::from(material - 1);
         lines::put_material(book, &mut lines[start..start + MATERIAL_LINE], material);
@@ -78,6 +80,7 @@ fn put_units<B: Book>(book: &mut B, lines: &mut [u8], units: u16)
     ensures put { lines.new ≡ numbered unit_line 1 (as_written (B.Book.meaning book.old)).units }
     ensures same { book.new ≡ book.old }
 {
+    // A range: of chunks that were lent for writing it is not known what they hold.
     for unit in 1..=units {
         let start = UNIT_LINE * usize::from(unit - 1);
         lines::put_unit(book, &mut lines[start..start + UNIT_LINE], unit);

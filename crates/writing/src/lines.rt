@@ -83,6 +83,7 @@ fn put_list<B: Book>(book: &mut B, list: &mut [u8], unit: u16, side: Side)
     ensures put { list.new ≡ list_bytes (told_list side unit (B.Book.meaning book.old)) }
     ensures same { book.new ≡ book.old }
 {
+    // A range: of chunks that were lent for writing it is not known what they hold.
     for place in 1..=LIST_FIELDS as u16 {
         let entry = book.entry(unit, side, place);
         let start = NUMBER * usize::from(place - 1);
