@@ -32,8 +32,8 @@ pub fn hide_all<B: EditableBook>(book: &mut B)
     ensures hidden { B.Book.meaning book.new ≡ all_hidden (B.Book.meaning book.old) }
     ensures held { B.Book.kept book.old book.new }
 {
-    for place in 0..book.units() {
-        let _ = book.hide(place + 1);
+    for unit in 1..=book.units() {
+        let _ = book.hide(unit);
     }
 }
 
