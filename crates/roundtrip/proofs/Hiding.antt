@@ -1,12 +1,10 @@
 -- Hiding one unit number after another. Assumes nothing.
-use Rattle.std.proofs.Common.{◌≡◌, ℕ, zero, suc, ◌+◌, ◌-◌, ◌<◌, ◌≤◌, Bool, true, false, not, leb, List, [], ◌∷◌, ◌++◌, map, length, get_or, take, drop, set, Some, Ok, Err, Result, sym, refl, ap, ◌∙◌, arith}
+use Rattle.std.proofs.Common.{◌≡◌, ℕ, zero, suc, ◌+◌, ◌-◌, ◌<◌, ◌≤◌, false, List, [], ◌∷◌, ◌++◌, map, length, get_or, take, drop, set, Ok, Err, Result, sym, refl, ap, ◌∙◌, arith}
 use Rattle.std.proofs.lemmas.List.{set-get_or, take_all, drop_all, append-nil}
-use Rattle.std.proofs.lemmas.Bool.{le-leb, and_from}
+use Rattle.std.proofs.lemmas.Grind.{common_steps}
 use Rattle.book.specs.declared.Refusal.{Refusal}
-use Rattle.book.specs.declared.Refusal.TheVariants.{OutOfRange, NotStanding}
 use Rattle.book.specs.Meaning.{UnitState, free, standing, withheld, Meaning, unit_count}
-use Rattle.book.specs.Refusals.{first_refusal}
-use Rattle.book.specs.Declined.{inside, is_standing, state_at}
+use Rattle.book.specs.Declined.{is_standing, state_at}
 use Rattle.book.specs.Edits.{hidden_state, hide_edit, Edited}
 use Rattle.roundtrip.specs.ThereAndBack.{all_hidden}
 
@@ -28,22 +26,20 @@ hide_next i [] h = absurd (omega arith)
 hide_next zero (x ∷ xs) h = refl
 hide_next (suc i) (x ∷ xs) h = ap (λ ys. hidden_state x ∷ ys) (hide_next i xs (omega arith))
 
--- a hide that is refused within the range names a number that does not stand, which is hidden as it is
-refused_same : (a : Bool) (s : UnitState) (x : Refusal) → a ≡ true → first_refusal (record { holds = not a; refusal = OutOfRange } ∷ (record { holds = not (is_standing s); refusal = NotStanding } ∷ [])) ≡ Some x → hidden_state s ≡ s
-refused_same true free x i e = refl
-refused_same true (standing f) x i e = let w : ◌≡◌ {A = ℕ} 0 1 = cc in absurd (omega arith)
-refused_same true (withheld f) x i e = refl
-refused_same false s x i e = let w : ◌≡◌ {A = ℕ} 0 1 = cc in absurd (omega arith)
+-- what does not stand is hidden as it is
+not_standing : (s : UnitState) → is_standing s ≡ false → hidden_state s ≡ s
+not_standing free e = refl
+not_standing (standing f) e = grind arith
+not_standing (withheld f) e = refl
 
--- so a hide within the range makes what it should, refused or not
+-- a hide within the range makes what it should, refused or not
 hide_made : {B : Type 0} (meaning : B → Meaning) (k : ℕ) (b c : B) (r : Result (Unit {0}) Refusal) → 1 ≤ k → k ≤ unit_count (meaning b) → Edited meaning (hide_edit k) b c r → meaning c ≡ (hide_edit k (meaning b)).made
 hide_made meaning k b c (Ok x) low high told = told.1
 hide_made meaning k b c (Err x) low high told =
     let m = meaning b in
-    let here = and_from (leb 1 k) (leb k (unit_count m)) (le-leb 1 k low) (le-leb k (unit_count m) high) in
-    let same = refused_same (inside k (unit_count m)) (state_at m k) x here told.0 in
+    let rests : is_standing (state_at m k) ≡ false = grind (arith, common_steps, told.0) in
     let mk : List UnitState → Meaning = λ us. record { materials = m.materials; units = us } in
-    ap meaning told.1 ∙ sym (ap mk (ap (set m.units (k - 1)) same ∙ set-get_or m.units (k - 1) free))
+    ap meaning told.1 ∙ sym (ap mk (ap (set m.units (k - 1)) (not_standing (state_at m k) rests) ∙ set-get_or m.units (k - 1) free))
 
 -- the book after the turn that hides this number
 pub hidden_more : {B : Type 0} (meaning : B → Meaning) (m : Meaning) (k : ℕ) (b c : B) (r : Result (Unit {0}) Refusal) → 1 ≤ k → k ≤ unit_count m → meaning b ≡ hidden_to (k - 1) m → Edited meaning (hide_edit k) b c r → meaning c ≡ hidden_to (k + 1 - 1) m
@@ -57,6 +53,4 @@ hidden_more meaning m k b c r low high so_far told =
 
 -- at the end all are hidden
 pub hidden_all : (m : Meaning) (i : ℕ) → unit_count m ≤ i → hidden_to i m ≡ all_hidden m
-hidden_all m i h =
-    let mk : List UnitState → Meaning = λ us. record { materials = m.materials; units = us } in
-    ap mk (ap (λ us. map hidden_state us ++ drop i m.units) (take_all i m.units h) ∙ (ap (λ us. map hidden_state m.units ++ us) (drop_all i m.units h) ∙ append-nil (map hidden_state m.units)))
+hidden_all m i h = grind (arith, take_all i m.units h, drop_all i m.units h, append-nil (map hidden_state m.units))

@@ -1,15 +1,14 @@
 -- What is written out can be read, and an acceptable meaning is written out as it is. Assumes nothing.
-use Rattle.std.proofs.Common.{◌≡◌, ℕ, ◌≤◌, Bool, true, false, not, ◌&&◌, ltb, leb, List, [], ◌∷◌, ◌++◌, map, length, take, drop, Some, None, Ok, Err, Result, sym, refl, ap, ◌∙◌, subst, arith}
+use Rattle.std.proofs.Common.{◌≡◌, ℕ, ◌≤◌, IfOk, Bool, true, false, List, [], ◌∷◌, ◌++◌, map, length, take, drop, None, Ok, Err, Result, sym, refl, ap, ◌∙◌, subst, arith}
 use Rattle.std.proofs.lemmas.List.{length-map, take_at}
-use Rattle.std.proofs.lemmas.Bool.{ltb-true, leb-true, le-leb, lt-ltb, le-ltb, and_parts, and_from, not-false}
+use Rattle.std.proofs.lemmas.Grind.{common_steps}
 use Rattle.std.specs.List.{AllByRecursion}
 use Rattle.book.specs.declared.Refusal.{Refusal}
-use Rattle.book.specs.declared.Refusal.TheVariants.{OutOfRange, BadList, MemoryTooShort}
+use Rattle.book.specs.declared.Refusal.TheVariants.{OutOfRange}
 use Rattle.book.specs.Meaning.{UnitState, free, standing, withheld, Meaning, material_count, unit_count, StateWithin, WellFormed}
-use Rattle.book.specs.Refusals.{Reason, first_refusal}
-use Rattle.book.specs.Declined.{inside}
+use Rattle.book.specs.Refusals.{first_refusal}
 use Rattle.book.specs.Layers.{empty_book}
-use Rattle.page.specs.Layout.{most, page_length}
+use Rattle.page.specs.Layout.{page_length}
 use Rattle.page.specs.Format.{page_of}
 use Rattle.page.specs.Checked.{Rising, Settled, Acceptable}
 use Rattle.page.proofs.Pages.{page_size}
@@ -23,30 +22,30 @@ use Rattle.roundtrip.specs.ThereAndBack.{NotWithheld, ReadsBack, PageHidden, all
 -- the test of ascending order, both ways
 rising_from : (last : ℕ) (xs : List ℕ) → rises last xs ≡ true → Rising last xs
 rising_from last [] e = tt
-rising_from last (x ∷ xs) e = let p = and_parts (ltb last x) (rises x xs) e in (ltb-true last x p.0, rising_from x xs p.1)
+rising_from last (x ∷ xs) e = grind (arith, common_steps, rising_from x xs)
 
 rises_from : (last : ℕ) (xs : List ℕ) → Rising last xs → rises last xs ≡ true
 rises_from last [] r = refl
-rises_from last (x ∷ xs) r = and_from (ltb last x) (rises x xs) (lt-ltb last x r.0) (rises_from x xs r.1)
+rises_from last (x ∷ xs) r = grind (arith, common_steps, rises_from x xs)
 
 -- a number is settled as it is written, where its lists ascend
 settled_from : (s : UnitState) → lists_rise s ≡ true → Settled (settled s)
 settled_from free e = tt
-settled_from (standing f) e = let p = and_parts (rises 0 f.inputs) (rises 0 f.outputs) e in (rising_from 0 f.inputs p.0, rising_from 0 f.outputs p.1)
+settled_from (standing f) e = grind (arith, common_steps, rising_from 0 f.inputs, rising_from 0 f.outputs)
 settled_from (withheld f) e = tt
 
 all_settled : (ss : List UnitState) → all_rise ss ≡ true → AllByRecursion Settled (map settled ss)
 all_settled [] e = tt
-all_settled (s ∷ ss) e = let p = and_parts (lists_rise s) (all_rise ss) e in (settled_from s p.0, all_settled ss p.1)
+all_settled (s ∷ ss) e = grind (arith, common_steps, settled_from s, all_settled ss)
 
 rise_from : (s : UnitState) → Settled s → lists_rise s ≡ true
 rise_from free t = refl
-rise_from (standing f) t = and_from (rises 0 f.inputs) (rises 0 f.outputs) (rises_from 0 f.inputs t.0) (rises_from 0 f.outputs t.1)
+rise_from (standing f) t = grind (arith, common_steps, rises_from 0 f.inputs t.0, rises_from 0 f.outputs t.1)
 rise_from (withheld f) t = refl
 
 all_rise_from : (ss : List UnitState) → AllByRecursion Settled ss → all_rise ss ≡ true
 all_rise_from [] t = refl
-all_rise_from (s ∷ ss) t = and_from (lists_rise s) (all_rise ss) (rise_from s t.0) (all_rise_from ss t.1)
+all_rise_from (s ∷ ss) t = grind (arith, common_steps, rise_from s t.0, all_rise_from ss t.1)
 
 -- lists stay within the materials when withheld numbers are freed
 within_settled : (l : ℕ) (s : UnitState) → StateWithin l s → StateWithin l (settled s)
@@ -66,7 +65,7 @@ settled_same (withheld f) t = absurd t
 
 map_same : (ss : List UnitState) → AllByRecursion NotWithheld ss → map settled ss ≡ ss
 map_same [] t = refl
-map_same (s ∷ ss) t = ap (λ x. x ∷ map settled ss) (settled_same s t.0) ∙ ap (λ xs. s ∷ xs) (map_same ss t.1)
+map_same (s ∷ ss) t = grind (arith, common_steps, settled_same s t.0, map_same ss t.1)
 
 pub written_same : (m : Meaning) → AllByRecursion NotWithheld m.units → as_written m ≡ m
 written_same m t = let mk : List UnitState → Meaning = λ us. record { materials = m.materials; units = us } in ap mk (map_same m.units t)
@@ -80,74 +79,36 @@ pub all_not_withheld : (ss : List UnitState) → AllByRecursion Settled ss → A
 all_not_withheld [] t = tt
 all_not_withheld (s ∷ ss) t = (not_withheld s t.0, all_not_withheld ss t.1)
 
--- the first of three reasons: none of them holds, if none is given
-module _ (a b c : Bool) (x y z : Refusal) where
-  abbrev three : Bool → Bool → Bool → List Reason
-  three p q r = record { holds = p; refusal = x } ∷ (record { holds = q; refusal = y } ∷ (record { holds = r; refusal = z } ∷ []))
-
-  pub none_holds : first_refusal (three a b c) ≡ None → (a ≡ false) × ((b ≡ false) × (c ≡ false))
-  none_holds e = by a b c refl refl refl e where
-    by : (p q r : Bool) → a ≡ p → b ≡ q → c ≡ r → first_refusal (three p q r) ≡ None → (a ≡ false) × ((b ≡ false) × (c ≡ false))
-    by false false false i j k e = (i, (j, k))
-    by false false true i j k e = let w : ◌≡◌ {A = ℕ} 0 1 = cc in absurd (omega arith)
-    by false true r i j k e = let w : ◌≡◌ {A = ℕ} 0 1 = cc in absurd (omega arith)
-    by true q r i j k e = let w : ◌≡◌ {A = ℕ} 0 1 = cc in absurd (omega arith)
-
-  pub none_given : a ≡ false → b ≡ false → c ≡ false → first_refusal (three a b c) ≡ None
-  none_given i j k = subst (λ p. first_refusal (three p b c) ≡ None) (sym i) (subst (λ q. first_refusal (three false q c) ≡ None) (sym j) (subst (λ r. first_refusal (three false false r) ≡ None) (sym k) refl))
-
--- a count that a page can have
-inside_from : (k : ℕ) → inside k most ≡ true → (1 ≤ k) × (k ≤ most)
-inside_from k e = let p = and_parts (leb 1 k) (leb k most) e in (leb-true 1 k p.0, leb-true k most p.1)
-
-from_inside : (k : ℕ) → 1 ≤ k → k ≤ most → inside k most ≡ true
-from_inside k a b = and_from (leb 1 k) (leb k most) (le-leb 1 k a) (le-leb k most b)
-
 module _ (m : Meaning) where
-  abbrev misfit : Bool
-  misfit = not (inside (material_count m) most && inside (unit_count m) most)
-
-  abbrev short : ℕ → Bool
-  short size = ltb size (page_length (material_count m) (unit_count m))
-
   -- what is written out without a refusal is the page of an acceptable meaning
   pub written_acceptable : (size : ℕ) → WellFormed m → first_refusal (write_reasons m size) ≡ None → Acceptable (as_written m)
   written_acceptable size w e =
-      let p = none_holds misfit (not (all_rise m.units)) (short size) OutOfRange BadList MemoryTooShort e in
-      let q = and_parts (inside (material_count m) most) (inside (unit_count m) most) (not-false _ p.0) in
-      let l = inside_from (material_count m) q.0 in
-      let n = inside_from (unit_count m) q.1 in
       let same : unit_count (as_written m) ≡ unit_count m = length-map m.units settled in
+      let rise : all_rise m.units ≡ true = grind (arith, common_steps) in
       record {
         well_formed = record {
           few_materials = w.few_materials;
-          few_units = subst (λ k. k ≤ 1024) (sym same) w.few_units;
+          few_units = omega (arith, w.few_units);
           lists = all_within (material_count m) m.units w.lists;
         };
-        some_material = l.0;
-        few_materials = l.1;
-        some_unit = subst (λ k. 1 ≤ k) (sym same) n.0;
-        few_units = subst (λ k. k ≤ most) (sym same) n.1;
-        settled = all_settled m.units (not-false _ p.1.0);
+        some_material = grind (arith, common_steps);
+        few_materials = grind (arith, common_steps);
+        some_unit = grind (arith, common_steps);
+        few_units = grind (arith, common_steps);
+        settled = all_settled m.units rise;
       }
 
   -- an acceptable meaning is written out where there is room
   pub acceptable_passes : (size : ℕ) → Acceptable m → page_length (material_count m) (unit_count m) ≤ size → first_refusal (write_reasons m size) ≡ None
-  acceptable_passes size a room =
-      let l = from_inside (material_count m) a.some_material a.few_materials in
-      let n = from_inside (unit_count m) a.some_unit a.few_units in
-      none_given misfit (not (all_rise m.units)) (short size) OutOfRange BadList MemoryTooShort
-      (ap not (and_from (inside (material_count m) most) (inside (unit_count m) most) l n))
-      (ap not (all_rise_from m.units a.settled))
-      (le-ltb size (page_length (material_count m) (unit_count m)) room)
+  acceptable_passes size a room = grind (arith, common_steps, all_rise_from m.units a.settled, a.some_material, a.few_materials, a.some_unit, a.few_units)
 
 -- the length of the page of an acceptable meaning
 page_long : (m : Meaning) → Acceptable m → length (page_of m) ≡ page_length (material_count m) (unit_count m)
 page_long m a = page_size (page_of m) (material_count m) (unit_count m) (record { meaning = m; acceptable = a; materials = refl; units = refl; written = refl })
 
 -- the bytes of the answered length are the page, so opening them gives what was written
-pub reads_back : (m : Meaning) (before after : List ℕ) (size : ℕ) → WellFormed m → WrittenOut m before after (Ok size) → ReadsBack m after size
-reads_back m before after size w told =
+pub reads_back : (m : Meaning) (before after : List ℕ) (r : Result ℕ Refusal) → WellFormed m → WrittenOut m before after r → IfOk r (ReadsBack m after)
+reads_back m before after (Ok size) w told =
     let a = written_acceptable m (length before) w told.0 in
     let same : unit_count (as_written m) ≡ unit_count m = length-map m.units settled in
     let long : length (page_of (as_written m)) ≡ size = page_long (as_written m) a ∙ (ap (page_length (material_count m)) same ∙ sym told.1) in
@@ -156,6 +117,7 @@ reads_back m before after size w told =
       as_written = λ again o. (o.page (as_written m) a page).0;
       same_book = λ none again o. (o.page (as_written m) a page).0 ∙ written_same m none;
     }
+reads_back m before after (Err x) w told = tt
 
 -- an accepted page is written out with its old bytes, where there is room
 pub old_bytes : (m : Meaning) (page before after : List ℕ) (r : Result ℕ Refusal) → Acceptable m → page ≡ page_of m → length page ≤ length before → WrittenOut m before after r → (r ≡ Ok (length page)) × (after ≡ page ++ drop (length page) before)
@@ -165,23 +127,17 @@ old_bytes m page before after (Ok size) a e room told =
     (ap Ok (sym long), told.2 ∙ (ap (λ p. p ++ drop size before) same ∙ ap (λ k. page ++ drop k before) (sym long)))
 old_bytes m page before after (Err x) a e room told =
     let fits : page_length (material_count m) (unit_count m) ≤ length before = subst (λ k. k ≤ length before) (ap length e ∙ page_long m a) room in
-    let passes = acceptable_passes m (length before) a fits in
-    let given = told.0 in
-    let w : ◌≡◌ {A = ℕ} 0 1 = cc in
-    absurd (omega arith)
+    grind (arith, common_steps, acceptable_passes m (length before) a fits, told.0)
 
 -- the empty book is not written out
 pub empty_refused : (before after : List ℕ) (r : Result ℕ Refusal) → WrittenOut empty_book before after r → (r ≡ Err OutOfRange) × (after ≡ before)
-empty_refused before after (Ok size) told = let given = told.0 in let w : ◌≡◌ {A = ℕ} 0 1 = cc in absurd (omega arith)
-empty_refused before after (Err x) told = let given : Some OutOfRange ≡ Some x = told.0 in let same : x ≡ OutOfRange = cc in (ap Err same, told.1)
+empty_refused before after (Ok size) told = grind (arith, common_steps)
+empty_refused before after (Err x) told = grind (arith, common_steps)
 
 -- a page book that means an acceptable book, hidden or not, is open
 by_open : (o : Bool) (bytes : List ℕ) (m : Meaning) → Acceptable m → meaning_of o bytes ≡ all_hidden m → of_page bytes ≡ all_hidden m
 by_open true bytes m a e = e
-by_open false bytes m a e =
-    let some = a.some_material in
-    let none : material_count empty_book ≡ material_count (all_hidden m) = ap material_count e in
-    absurd (omega arith)
+by_open false bytes m a e = grind (arith, a.some_material, ap material_count e)
 
 -- what the bytes are when a page book is gone whose units were all hidden
 pub page_hidden : (b t : PageBook) (bytes after : List ℕ) → b.bytes.now ≡ bytes → Opened bytes (page_meaning b) → ((line column : ℕ) → Refused bytes line column → b.«open» ≡ false) → PageKept b t → page_meaning t ≡ all_hidden (page_meaning b) → after ≡ t.bytes.now → PageHidden bytes after
