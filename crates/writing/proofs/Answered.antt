@@ -1,12 +1,11 @@
 -- What the questions of a book tell, number by number. Assumes nothing.
-use Rattle.std.proofs.Common.{◌≡◌, ℕ, ◌-◌, ◌<◌, ◌≤◌, true, false, leb, List, [], length, get_or, Some, None, Option, unwrap_or, refl, ap, ◌∙◌, ap₂, sym, arith}
+use Rattle.std.proofs.Common.{◌≡◌, ℕ, ◌-◌, ◌<◌, ◌≤◌, List, [], length, get_or, Some, None, Option, refl, ap, ◌∙◌, sym, arith}
 use Rattle.std.proofs.lemmas.List.Elements.{All-from_recursion}
-use Rattle.std.proofs.lemmas.Bool.{le-leb, lt-leb, leb-true, and_from, and_parts, and_right, cond-true, cond-false, cond_both}
+use Rattle.std.proofs.lemmas.Grind.{common_steps}
 use Rattle.book.specs.declared.books.Side.{Side}
 use Rattle.book.specs.declared.books.Side.TheVariants.{Inputs, Outputs}
 use Rattle.book.specs.Meaning.{Fitted, UnitState, free, standing, withheld, Meaning, material_count, unit_count, StateWithin, WellFormed}
-use Rattle.book.specs.Declined.{inside}
-use Rattle.book.specs.Asked.{where_inside, plain, told_of, fitted_at, entry_in, entry_at, list_on}
+use Rattle.book.specs.Asked.{plain, told_of, fitted_at, entry_in, entry_at, list_on}
 use Rattle.std.proofs.lemmas.List.{get_or-map}
 use Rattle.writing.specs.WrittenOut.{settled, as_written}
 use Rattle.writing.specs.Told.{told_material, state_from, told_state, list_from, told_list, entry_of}
@@ -15,23 +14,12 @@ use Rattle.writing.specs.Told.{told_material, state_from, told_state, list_from,
 pub asked_again : {B X : Type 0} (answer : B → X) {a b : B} {r : X} → r ≡ answer a → a ≡ b → r ≡ answer b
 asked_again answer told same = told ∙ ap answer same
 
--- a number from 1 to the count is inside it, and one above it is not
-is_inside : (k count : ℕ) → 1 ≤ k → k ≤ count → inside k count ≡ true
-is_inside k count low high = and_from _ _ (le-leb 1 k low) (le-leb k count high)
-
-is_outside : (k count : ℕ) → count < k → inside k count ≡ false
-is_outside k count above = and_right _ _ (lt-leb k count above)
-
--- so it is told what stands there
-told_inside : {X : Type 0} (k count : ℕ) (x : X) → 1 ≤ k → k ≤ count → where_inside k count x ≡ Some x
-told_inside k count x low high = cond-true (inside k count) _ _ (is_inside k count low high)
-
 -- the entry at a place of a list, and past its end none
 pub entry_some : (xs : List ℕ) (place : ℕ) → 1 ≤ place → place ≤ length xs → entry_of xs place ≡ Some (get_or xs (place - 1) 0)
-entry_some xs place low high = told_inside place (length xs) _ low high
+entry_some xs place low high = grind (arith, common_steps)
 
 pub entry_none : (xs : List ℕ) (place : ℕ) → length xs < place → entry_of xs place ≡ None
-entry_none xs place above = cond-false (inside place (length xs)) _ _ (is_outside place (length xs) above)
+entry_none xs place above = grind (arith, common_steps)
 
 -- the entries that a book answers are those of the list that is told
 entry_from : (side : Side) (place : ℕ) (o : Option Fitted) → 1 ≤ place → entry_in (list_on side) place o ≡ entry_of (list_from side o) place
@@ -43,10 +31,7 @@ entry_told side place k m low = entry_from side place (fitted_at k m) low
 
 -- a material is told as it is
 pub material_told : (m : Meaning) (k : ℕ) → 1 ≤ k → k ≤ material_count m → told_material k m ≡ get_or m.materials (k - 1) plain
-material_told m k low high =
-    let x = get_or m.materials (k - 1) plain in
-    let l = material_count m in
-    ap₂ (λ w b. record { wanted = unwrap_or w false; bought = unwrap_or b false }) (told_inside k l x.wanted low high) (told_inside k l x.bought low high)
+material_told m k low high = grind (arith, common_steps)
 
 -- the state of a unit number is told as it goes onto the page
 state_settled : (s : UnitState) → state_from (told_of s) ≡ settled s
@@ -55,10 +40,7 @@ state_settled (standing f) = refl
 state_settled (withheld f) = refl
 
 pub state_written : (m : Meaning) (k : ℕ) → 1 ≤ k → k ≤ unit_count m → told_state k m ≡ get_or (as_written m).units (k - 1) free
-state_written m k low high =
-    let s = get_or m.units (k - 1) free in
-    ap state_from (cond-true (inside k (unit_count m)) _ _ (is_inside k (unit_count m) low high))
-    ∙ (state_settled s ∙ sym (get_or-map settled m.units (k - 1) free free (omega arith)))
+state_written m k low high = grind (arith, common_steps, state_settled (get_or m.units (k - 1) free), get_or-map settled m.units (k - 1) free free)
 
 -- a list that is told has at most eight entries
 list_few : (l : ℕ) (side : Side) (s : UnitState) → StateWithin l s → length (list_from side (told_of s)) ≤ 8
@@ -68,14 +50,4 @@ list_few l Outputs (standing f) w = w.outputs.few
 list_few l side (withheld f) w = omega arith
 
 pub few_told : (m : Meaning) (side : Side) (k : ℕ) → WellFormed m → length (told_list side k m) ≤ 8
-few_told m side k w =
-    let l = material_count m in
-    let n = unit_count m in
-    cond_both (inside k n) (told_of (get_or m.units (k - 1) free)) None (λ o. length (list_from side o) ≤ 8)
-    (λ e.
-    let both = and_parts (leb 1 k) (leb k n) e in
-    let low : 1 ≤ k = leb-true 1 k both.0 in
-    let high : k ≤ n = leb-true k n both.1 in
-    let here : k - 1 < n = omega arith in
-    list_few l side (get_or m.units (k - 1) free) (All-from_recursion (StateWithin l) m.units w.lists (k - 1) free here))
-    (λ e. omega arith)
+few_told m side k w = grind (arith, common_steps, list_few (material_count m) side (get_or m.units (k - 1) free), All-from_recursion (StateWithin (material_count m)) m.units w.lists (k - 1) free)

@@ -1,7 +1,8 @@
 -- The fields of numbers and of lists. Assumes nothing.
 use Rattle.std.proofs.Common.{◌≡◌, ℕ, ◌+◌, ◌-◌, ◌*◌, ◌<◌, ◌≤◌, List, [], ◌∷◌, ◌++◌, length, get_or, take, Some, None, Option, sym, ap, ◌∙◌, inl, inr, arith}
-use Rattle.std.proofs.lemmas.List.{append-nil, append_assoc, length-take-le, take_all, take_more, replicate-append-replicate}
+use Rattle.std.proofs.lemmas.List.{append-nil, length-take-le, take_all, take_more, replicate-append-replicate}
 use Rattle.std.proofs.lemmas.Bool.{cases_lt}
+use Rattle.std.proofs.lemmas.Grind.{common_steps}
 use Rattle.columns.specs.Columns.{blanks, column, Wrote}
 use Rattle.columns.proofs.Laws.{fits_five}
 use Rattle.page.specs.Format.{number_fields, list_bytes}
@@ -17,39 +18,28 @@ number_written n before after None small wide wrote = absurd (wrote.0 wide (fits
 -- the fields of a list with one number more at its end
 number_fields_push : (xs : List ℕ) (x : ℕ) → number_fields (xs ++ x ∷ []) ≡ number_fields xs ++ column 5 x
 number_fields_push [] x = append-nil (column 5 x)
-number_fields_push (y ∷ ys) x = ap (λ t. column 5 y ++ t) (number_fields_push ys x) ∙ sym (append_assoc (column 5 y) (number_fields ys) (column 5 x))
+number_fields_push (y ∷ ys) x = grind (arith, common_steps, number_fields_push ys x)
 
 -- a list that fills its fields
 listed_full : (c : ℕ) (xs : List ℕ) → length xs ≡ c → listed c xs ≡ number_fields xs
-listed_full c xs full =
-    let none : 5 * (c - length xs) ≡ 0 = omega arith in
-    ap (λ k. number_fields xs ++ blanks k) none ∙ append-nil (number_fields xs)
+listed_full c xs full = grind (arith, common_steps)
 
 -- a list and a blank field more
 listed_blank : (c d : ℕ) (xs : List ℕ) → d ≡ c + 1 → length xs ≤ c → listed d xs ≡ listed c xs ++ blanks 5
 listed_blank c d xs next room =
     let sum : 5 * (d - length xs) ≡ 5 * (c - length xs) + 5 = omega arith in
-    let split : blanks (5 * (d - length xs)) ≡ blanks (5 * (c - length xs)) ++ blanks 5 = ap blanks sum ∙ sym (replicate-append-replicate (5 * (c - length xs)) 5 32) in
-    ap (λ t. number_fields xs ++ t) split ∙ sym (append_assoc (number_fields xs) (blanks (5 * (c - length xs))) (blanks 5))
+    grind (arith, common_steps, replicate-append-replicate {A = ℕ} (5 * (c - length xs)) 5 32)
 
 -- the first fields, and the one at the next place
 pub listed_step : (place : ℕ) (xs : List ℕ) → 1 ≤ place → listed (place - 1) (take (place - 1) xs) ++ field_bytes (entry_of xs place) ≡ listed place (take place xs)
 listed_step place xs low = elim (cases_lt (length xs) place) [
   | inl above ↦
-      let before : take (place - 1) xs ≡ xs = take_all (place - 1) xs (omega arith) in
-      let field : field_bytes (entry_of xs place) ≡ blanks 5 = ap field_bytes (entry_none xs place above) in
-      let after : take place xs ≡ xs = take_all place xs (omega arith) in
-      let more = listed_blank (place - 1) place xs (omega arith) (omega arith) in
-      cc
+      grind (arith, common_steps, take_all, entry_none xs place above, listed_blank (place - 1) place xs)
   | inr high ↦
       let x = get_or xs (place - 1) 0 in
       let next : place - 1 + 1 ≡ place = omega arith in
-      let before : listed (place - 1) (take (place - 1) xs) ≡ number_fields (take (place - 1) xs) = listed_full (place - 1) (take (place - 1) xs) (length-take-le (place - 1) xs (omega arith)) in
-      let field : field_bytes (entry_of xs place) ≡ column 5 x = ap field_bytes (entry_some xs place low high) in
-      let after : listed place (take place xs) ≡ number_fields (take place xs) = listed_full place (take place xs) (length-take-le place xs high) in
       let more : take place xs ≡ take (place - 1) xs ++ x ∷ [] = ap (λ k. take k xs) (sym next) ∙ take_more xs (place - 1) 0 (omega arith) in
-      let fields : number_fields (take place xs) ≡ number_fields (take (place - 1) xs) ++ column 5 x = ap number_fields more ∙ number_fields_push (take (place - 1) xs) x in
-      cc
+      grind (arith, common_steps, more, entry_some xs place low high, listed_full, number_fields_push, length-take-le)
 ]
 
 -- all eight

@@ -1,6 +1,7 @@
 -- The lines of a page, one after another. Assumes nothing.
-use Rattle.std.proofs.Common.{◌≡◌, ℕ, ◌+◌, ◌-◌, ◌*◌, ◌≤◌, List, [], ◌∷◌, ◌++◌, length, get_or, take, drop, sym, ap, ◌∙◌, arith}
-use Rattle.std.proofs.lemmas.List.{append-nil, append_assoc, length-take-le, take_all, take_more}
+use Rattle.std.proofs.Common.{◌≡◌, ℕ, ◌+◌, ◌-◌, ◌*◌, ◌≤◌, List, [], ◌∷◌, ◌++◌, length, get_or, take, drop, ap, ◌∙◌, arith}
+use Rattle.std.proofs.lemmas.List.{append-nil, length-take-le, take_all, take_more}
+use Rattle.std.proofs.lemmas.Grind.{common_steps}
 use borrow.Rule.Slice.PartMut.{put_mid}
 use Rattle.page.specs.Format.{numbered}
 use Rattle.writing.proofs.Putting.{PutBefore, put_next, put_whole}
@@ -13,8 +14,7 @@ module _ {X : Type 0} (line : ℕ → X → List ℕ) where
       append-nil (line k x) ∙ ap (λ i. line i x) here
   numbered_push k (y ∷ ys) x =
       let next : k + 1 + length ys ≡ k + length (y ∷ ys) = omega arith in
-      ap (λ t. line k y ++ t) (numbered_push (k + 1) ys x ∙ ap (λ i. numbered line (k + 1) ys ++ line i x) next)
-      ∙ sym (append_assoc (line k y) (numbered line (k + 1) ys) (line (k + length (y ∷ ys)) x))
+      grind (arith, common_steps, numbered_push (k + 1) ys x)
 
   -- the first lines, and the one with the next number
   pub lines_step : (k : ℕ) (xs : List X) (d x : X) → 1 ≤ k → k ≤ length xs → x ≡ get_or xs (k - 1) d → numbered line 1 (take (k - 1) xs) ++ line k x ≡ numbered line 1 (take k xs)
