@@ -1,19 +1,13 @@
 -- The fields of numbers and of lists. Assumes nothing.
-use Rattle.std.proofs.Common.{◌≡◌, ℕ, ◌+◌, ◌-◌, ◌*◌, ◌<◌, ◌≤◌, List, [], ◌∷◌, ◌++◌, length, get_or, take, Some, None, Option, sym, ap, ◌∙◌, inl, inr, arith}
+use Rattle.std.proofs.Common.{◌≡◌, ℕ, ◌+◌, ◌-◌, ◌*◌, ◌≤◌, List, [], ◌∷◌, ◌++◌, length, get_or, take, sym, ap, ◌∙◌, inl, inr, arith}
 use Rattle.std.proofs.lemmas.List.{append-nil, length-take-le, take_all, take_more, replicate-append-replicate}
 use Rattle.std.proofs.lemmas.Bool.{cases_lt}
 use Rattle.std.proofs.lemmas.Grind.{common_steps}
-use Rattle.columns.specs.Columns.{blanks, column, Wrote}
-use Rattle.columns.proofs.Laws.{fits_five}
+use Rattle.columns.specs.Columns.{blanks, column}
 use Rattle.page.specs.Format.{number_fields, list_bytes}
 use Rattle.page.proofs.Lists.{listed}
 use Rattle.writing.specs.Told.{entry_of, field_bytes}
 use Rattle.writing.proofs.Answered.{entry_some, entry_none}
-
--- a number of at most five digits that is written into five columns stands there
-pub number_written : (n : ℕ) (before after : List ℕ) (r : Option (Unit {0})) → n < 100000 → length before ≡ 5 → Wrote 5 n before after r → after ≡ column 5 n
-number_written n before after (Some _) small wide wrote = wrote.2
-number_written n before after None small wide wrote = absurd (wrote.0 wide (fits_five n small))
 
 -- the fields of a list with one number more at its end
 number_fields_push : (xs : List ℕ) (x : ℕ) → number_fields (xs ++ x ∷ []) ≡ number_fields xs ++ column 5 x
