@@ -40,7 +40,7 @@ pub fn write_out<B: Book>(book: &mut B, memory: &mut [u8]) -> Result<usize, Refu
 fn on_page(count: u16) -> bool
     ensures { result ≡ inside count most }
 {
-    1 <= count && count <= MOST
+    (1..=MOST).contains(&count)
 }
 
 // Puts the whole page of a book with these counts.
@@ -58,8 +58,8 @@ fn put_page<B: Book>(book: &mut B, page: &mut [u8], materials: u16, units: u16)
     put_units(book, unit_lines, units);
 }
 
-// Puts the lines of all materials. One function for these and for the units' lines would be told how a line is put, and
-// would have to say of that all that is said of put_material and put_unit.
+// Puts the lines of all materials. One function for these and for the units' lines, which would be given how a line is
+// put, would have to say again in its contract all that put_material and put_unit promise.
 fn put_materials<B: Book>(book: &mut B, lines: &mut [u8], materials: u16)
     requires count { materials ≡ material_count (B.Book.meaning book.old) }
     requires size { length lines.old ≡ 7 * materials }

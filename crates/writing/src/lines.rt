@@ -103,7 +103,7 @@ fn put_field(field: &mut [u8], entry: Option<u16>)
 }
 
 // Puts a number into its columns, where it fits: a u16 has at most five digits.
-#[tactic(auto, using(std::proofs::lemmas::Grind::common_steps, columns::proofs::Laws::fits_five))]
+#[tactic(auto, using(columns::proofs::Laws::fits_five))]
 fn put_number(field: &mut [u8], number: u16)
     requires { length field.old ≡ 5 }
     ensures { field.new ≡ column 5 number }
