@@ -78,6 +78,8 @@ fn state_of<B: Book>(book: &mut B, unit: u16) -> State
 }
 
 // Puts all fields of a unit's list on one side.
+// Inlined, since the side is known where it is called: which list is meant is then not asked again at each field.
+#[inline(always)]
 fn put_list<B: Book>(book: &mut B, list: &mut [u8], unit: u16, side: Side)
     requires { length list.old ≡ 40 }
     ensures put { list.new ≡ list_bytes (told_list side unit (B.Book.meaning book.old)) }
