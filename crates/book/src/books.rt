@@ -58,8 +58,8 @@ pub struct Lists<'a> {
     pub outputs: &'a [u16],
 }
 
-// A book that can be asked. A question takes the book for writing, since a book over lent memory can be read in no other
-// way, and changes nothing at all. One outside its range is answered by absence.
+// A book that can be asked. A question takes the book for writing, as an edit does, and changes nothing at all. One outside
+// its range is answered by absence.
 pub trait Book {
     // What the book means.
     ghost meaning: { Self → Meaning };

@@ -42,6 +42,8 @@ impl<'a> Book for TableBook<'a> {
         Some(row.list(side, self.materials()).len() as u16)
     }
 
+    // Inlined, since whoever writes a page out asks for every entry.
+    #[inline(always)]
     fn entry(&mut self, unit: u16, side: Side, place: u16) -> Option<u16> {
         let row = self.standing_row(unit)?;
         let index = place.checked_sub(1)?;
