@@ -1,5 +1,5 @@
 // The longest page: 512 plain materials and 512 free numbers.
-ghost use Rattle.std.specs.Prelude.{◌≡◌, ◌+◌, IfOk, vec_len, OnOk};
+ghost use Rattle.std.specs.Prelude.{◌≡◌, ◌+◌, IfOk, length, vec_len, OnOk};
 
 use columns::write;
 use std::alloc::{AllocError, Global};
@@ -13,23 +13,13 @@ fn push_number(page: &mut Vec<u8>, number: u32) -> Result<(), AllocError>
     page.extend_from_slice(&field)
 }
 
-// Adds the line of a plain material.
-fn push_material(page: &mut Vec<u8>, number: u32) -> Result<(), AllocError>
-    ensures { OnOk result (vec_len page.new ≡ vec_len page.old + 7) }
+// Adds a line that has no letter: its number, and its other fields.
+fn push_line(page: &mut Vec<u8>, number: u32, fields: &[u8]) -> Result<(), AllocError>
+    ensures { OnOk result (vec_len page.new ≡ vec_len page.old + 7 + length fields.now) }
 {
     page.push(b'-')?;
     push_number(page, number)?;
-    page.push(b'\n')?;
-    Ok(())
-}
-
-// Adds the line of a free number.
-fn push_free(page: &mut Vec<u8>, number: u32) -> Result<(), AllocError>
-    ensures { OnOk result (vec_len page.new ≡ vec_len page.old + 87) }
-{
-    page.push(b'-')?;
-    push_number(page, number)?;
-    page.extend_from_slice(&[b' '; 80])?;
+    page.extend_from_slice(fields)?;
     page.push(b'\n')?;
     Ok(())
 }
@@ -41,11 +31,11 @@ pub(crate) fn largest_page(heap: Global) -> Result<Vec<u8>, AllocError>
     push_number(&mut page, 512)?;
     push_number(&mut page, 512)?;
     page.push(b'\n')?;
-    for material in 0..512 {
-        push_material(&mut page, material + 1)?;
+    for material in 1..=512 {
+        push_line(&mut page, material, b"")?;
     }
-    for unit in 0..512 {
-        push_free(&mut page, unit + 1)?;
+    for unit in 1..=512 {
+        push_line(&mut page, unit, &[b' '; 80])?;
     }
     Ok(page)
 }

@@ -1,20 +1,20 @@
-// The table of damaged pages: the small farm's page, cut and patched, and where it is then at fault, worked out by hand
-// from the page's rules.
+// The tables of damaged pages: what is done to a good page, and where it is then at fault, worked out by hand from the
+// page's rules. But for the last two, the page is the small farm's.
 
-// A page with other bytes from a place on: its name, the place, the bytes; the line and the column at fault.
-pub struct Patched(
-    pub &'static str,
-    pub usize,
-    pub &'static [u8],
-    pub u16,
-    pub u16,
-);
+use Damaged::{Cut, Patched};
 
-// A page that is cut after so many bytes: its name, how many; the line and the column at fault.
-pub struct Cut(pub &'static str, pub usize, pub u16, pub u16);
+// A damaged page, and the line and the column at which it is then at fault. The fields have no names, so that a row of the
+// tables takes one line.
+#[derive(Clone, Copy)]
+pub enum Damaged {
+    // Other bytes stand from a place on: the page's name, the place, the bytes; the line, the column.
+    Patched(&'static str, usize, &'static [u8], u16, u16),
+    // Only so many bytes are left: the page's name, how many; the line, the column.
+    Cut(&'static str, usize, u16, u16),
+}
 
 // Faults of the first line.
-pub const FIRST_LINE: [Patched; 17] = [
+pub const FIRST_LINE: [Damaged; 17] = [
     Patched("l blank", 0, b"     ", 1, 1),
     Patched("l 0", 0, b"    0", 1, 1),
     Patched("l 513", 0, b"  513", 1, 1),
@@ -35,7 +35,7 @@ pub const FIRST_LINE: [Patched; 17] = [
 ];
 
 // Faults of the materials' lines.
-pub const MATERIALS: [Patched; 9] = [
+pub const MATERIALS: [Damaged; 9] = [
     Patched("material 1 with letter W", 11, b"W", 2, 1),
     Patched("material 3 with letter S", 25, b"S", 4, 1),
     Patched("material 2 with running number 3", 19, b"    3", 3, 2),
@@ -48,7 +48,7 @@ pub const MATERIALS: [Patched; 9] = [
 ];
 
 // Faults of the units' lines, their lists aside.
-pub const UNITS: [Patched; 9] = [
+pub const UNITS: [Damaged; 9] = [
     Patched("unit 1 withheld", 39, b"W", 6, 1),
     Patched("unit 2 with letter P", 126, b"P", 7, 1),
     Patched("unit 2 with running number 1", 127, b"    1", 7, 2),
@@ -67,7 +67,7 @@ pub const UNITS: [Patched; 9] = [
 ];
 
 // Faults of lists.
-pub const LISTS: [Patched; 12] = [
+pub const LISTS: [Damaged; 12] = [
     Patched("outputs 3, 1", 85, b"    3    1", 6, 52),
     Patched("outputs 1, 1", 85, b"    1    1", 6, 52),
     Patched("outputs 1, blank, 3", 85, b"    1         3", 6, 57),
@@ -83,7 +83,7 @@ pub const LISTS: [Patched; 12] = [
 ];
 
 // Bytes after the end, and counts that promise other lines than there are.
-pub const ENDS: [Patched; 8] = [
+pub const ENDS: [Damaged; 8] = [
     Patched("one byte too many", 213, b"\n", 8, 0),
     Patched(
         "many bytes too many",
@@ -101,10 +101,25 @@ pub const ENDS: [Patched; 8] = [
 ];
 
 // Bytes that end too early.
-pub const CUT: [Cut; 5] = [
+pub const CUT: [Damaged; 5] = [
     Cut("no bytes", 0, 1, 0),
     Cut("ten bytes", 10, 1, 0),
     Cut("cut after line 1", 11, 2, 0),
     Cut("cut short within material 1", 17, 2, 0),
     Cut("last newline missing", 212, 7, 0),
 ];
+
+// Lists that fill their fields and do not ascend, on the page with a full line.
+pub const FULL_LISTS: [Damaged; 2] = [
+    Patched("eighth input as the seventh", 108, b"    7", 10, 42),
+    Patched("eighth output as the first", 148, b"    1", 10, 82),
+];
+
+// A line that is both wrong and cut short, on the first hundred bytes of the small farm's page.
+pub const WRONG_AND_CUT: [Damaged; 1] = [Patched(
+    "cut short within unit 1, whose letter is wrong",
+    39,
+    b"Q",
+    6,
+    0,
+)];

@@ -1,8 +1,9 @@
 // One page after another through the check.
-use anyhow::anyhow;
+use crate::table::Damaged;
+use anyhow::bail;
 use book::PageFault;
 use page::check;
-use samples::patched;
+use samples::{front, patched};
 
 // The pages that were tried so far.
 #[derive(Drop)]
@@ -25,30 +26,33 @@ impl Trial<'_> {
         Ok(())
     }
 
-    // The page should be refused at this line and column.
+    // The page should be refused with this fault.
     pub(crate) fn refused(
         &mut self,
         name: &str,
         page: &[u8],
-        place: (u16, u16),
+        fault: PageFault,
     ) -> anyhow::Result<()> {
-        let (line, column) = place;
-        self.expect(name, page, Err(PageFault { line, column }))?;
+        self.expect(name, page, Err(fault))?;
+        let PageFault { line, column } = fault;
         println!(self.rt; "{name}: line {line}, column {column}")?;
         Ok(())
     }
 
-    // The page with other bytes from `at` on should be refused at this line and column.
-    pub(crate) fn patched(
-        &mut self,
-        name: &str,
-        page: &[u8],
-        at: usize,
-        patch: &[u8],
-        place: (u16, u16),
-    ) -> anyhow::Result<()> {
-        let bytes = patched(self.rt.alloc(), page, at, patch)?;
-        self.refused(name, bytes.as_slice(), place)
+    // The page, damaged as each row of the table says, should be refused as the row says.
+    pub(crate) fn damaged(&mut self, page: &[u8], table: &[Damaged]) -> anyhow::Result<()> {
+        for row in table {
+            match *row {
+                Damaged::Patched(name, at, patch, line, column) => {
+                    let bytes = patched(self.rt.alloc(), page, at, patch)?;
+                    self.refused(name, bytes.as_slice(), PageFault { line, column })?;
+                }
+                Damaged::Cut(name, count, line, column) => {
+                    self.refused(name, front(page, count), PageFault { line, column })?;
+                }
+            }
+        }
+        Ok(())
     }
 
     // The check of the page should answer this; else the program ends with an error.
@@ -61,7 +65,7 @@ impl Trial<'_> {
         let given = check(page);
         if given != answer {
             eprintln!(self.rt; "{name}: answered {given:?}")?;
-            return Err(anyhow!("a page was answered otherwise than by hand"));
+            bail!("a page was answered otherwise than by hand");
         }
         self.count = self.count.saturating_add(1);
         Ok(())
