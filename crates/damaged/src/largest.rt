@@ -5,16 +5,16 @@ use columns::write;
 use std::alloc::{AllocError, Global};
 
 // Adds a number in five columns.
-fn push_number(page: &mut Vec<u8>, number: u32) -> Result<(), AllocError>
+fn push_number(page: &mut Vec<u8>, number: u16) -> Result<(), AllocError>
     ensures { OnOk result (vec_len page.new ≡ vec_len page.old + 5) }
 {
     let mut field = [b' '; 5];
-    let _ = write(&mut field, 5, number);
+    write(&mut field, 5, u32::from(number)).unwrap();
     page.extend_from_slice(&field)
 }
 
 // Adds a line that has no letter: its number, and its other fields.
-fn push_line(page: &mut Vec<u8>, number: u32, fields: &[u8]) -> Result<(), AllocError>
+fn push_line(page: &mut Vec<u8>, number: u16, fields: &[u8]) -> Result<(), AllocError>
     ensures { OnOk result (vec_len page.new ≡ vec_len page.old + 7 + length fields.now) }
 {
     page.push(b'-')?;
