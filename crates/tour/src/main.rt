@@ -5,23 +5,20 @@ mod edits;
 mod pages;
 
 use book::Refusal;
-use edits::{edit_and_tell, make_farm};
+use edits::edit_and_tell;
 use pagebook::PageBook;
 use pages::{check_pages, tell};
 use roundtrip::{copy_page, hide_page, save};
 use samples::SMALL_FARM;
 use table::{MaterialRow, TableBook, UnitRow};
+use telling::{make_farm, tell_answer};
 
 // What came of writing a page: its length, or the refusal.
 fn tell_written(rt: &HostRuntime, answer: Result<usize, Refusal>) -> anyhow::Result<()> {
-    match answer {
-        Ok(length) => println!(rt; "  written: {length} bytes")?,
-        Err(refusal) => {
-            let number = refusal.number();
-            println!(rt; "  refused with {number}")?;
-        }
-    }
-    Ok(())
+    tell_answer(rt, answer, |length| {
+        println!(rt; "  written: {length} bytes")?;
+        Ok(())
+    })
 }
 
 // The small farm on its page: edited, and written out.

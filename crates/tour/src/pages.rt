@@ -18,12 +18,12 @@ pub(crate) fn tell(rt: &HostRuntime, name: &str, page: &[u8]) -> anyhow::Result<
 
 // Where a page is at fault.
 fn tell_fault(rt: &HostRuntime, fault: PageFault) -> anyhow::Result<()> {
-    let number = Refusal::BadPage(fault).number();
+    let refusal = Refusal::BadPage(fault);
     let PageFault { line, column } = fault;
     if column == 0 {
-        println!(rt; "  refused with {number}: line {line} is cut short, or should not be there")?;
+        println!(rt; "  refused with {refusal}: line {line} is cut short, or should not be there")?;
     } else {
-        println!(rt; "  refused with {number}: line {line}, the field at column {column}")?;
+        println!(rt; "  refused with {refusal}: line {line}, the field at column {column}")?;
     }
     Ok(())
 }
