@@ -1,14 +1,12 @@
 // The borders of what a book can hold, on both books: the first and the last number, the longest list, no rows at all.
 #![tactic(auto)]
 
-mod say;
-
-use anyhow::anyhow;
-use book::{Book, EditableBook, Lists};
+use anyhow::ensure;
+use book::{Book, Class, EditableBook};
 use pagebook::PageBook;
 use samples::FULL_LINE;
-use say::say;
 use table::{MaterialRow, RowState, TableBook, UnitRow};
+use telling::{lists, say};
 use writing::write_out;
 
 const EIGHT: [u16; 8] = [1, 2, 3, 4, 5, 6, 7, 8];
@@ -19,84 +17,18 @@ const NINE: [u16; 9] = [1, 2, 3, 4, 5, 6, 7, 8, 9];
 fn try_lists<B: EditableBook>(rt: &HostRuntime, book: &mut B) -> anyhow::Result<()> {
     say(rt, "hide 1", book.hide(1))?;
     say(rt, "clear 1", book.clear(1))?;
-    say(
-        rt,
-        "nine inputs",
-        book.fit(
-            1,
-            Lists {
-                inputs: &NINE,
-                outputs: &EIGHT,
-            },
-        ),
-    )?;
-    say(
-        rt,
-        "nine outputs",
-        book.fit(
-            1,
-            Lists {
-                inputs: &EIGHT,
-                outputs: &NINE,
-            },
-        ),
-    )?;
-    say(
-        rt,
-        "input 9 of 8",
-        book.fit(
-            1,
-            Lists {
-                inputs: &[9],
-                outputs: &[],
-            },
-        ),
-    )?;
-    say(
-        rt,
-        "input 0",
-        book.fit(
-            1,
-            Lists {
-                inputs: &[0],
-                outputs: &[],
-            },
-        ),
-    )?;
-    say(
-        rt,
-        "output 3 twice",
-        book.fit(
-            1,
-            Lists {
-                inputs: &[],
-                outputs: &[3, 3],
-            },
-        ),
-    )?;
-    say(
-        rt,
-        "empty lists",
-        book.fit(
-            1,
-            Lists {
-                inputs: &[],
-                outputs: &[],
-            },
-        ),
-    )?;
+    say(rt, "nine inputs", book.fit(1, lists(&NINE, &EIGHT)))?;
+    say(rt, "nine outputs", book.fit(1, lists(&EIGHT, &NINE)))?;
+    say(rt, "input 9 of 8", book.fit(1, lists(&[9], &[])))?;
+    say(rt, "input 0", book.fit(1, lists(&[0], &[])))?;
+    say(rt, "output 3 twice", book.fit(1, lists(&[], &[3, 3])))?;
+    say(rt, "empty lists", book.fit(1, lists(&[], &[])))?;
     say(rt, "hide 1", book.hide(1))?;
     say(rt, "clear 1", book.clear(1))?;
     say(
         rt,
         "eight inputs and eight outputs",
-        book.fit(
-            1,
-            Lists {
-                inputs: &EIGHT,
-                outputs: &EIGHT,
-            },
-        ),
+        book.fit(1, lists(&EIGHT, &EIGHT)),
     )
 }
 
@@ -109,41 +41,11 @@ fn try_numbers<B: EditableBook>(
 ) -> anyhow::Result<()> {
     let (materials, units) = (book.materials(), book.units());
     println!(rt; "  {materials} materials, {units} unit numbers")?;
-    say(
-        rt,
-        "fit at 0",
-        book.fit(
-            0,
-            Lists {
-                inputs: &[],
-                outputs: &[],
-            },
-        ),
-    )?;
-    say(
-        rt,
-        "fit at the last",
-        book.fit(
-            last,
-            Lists {
-                inputs: &[],
-                outputs: &[],
-            },
-        ),
-    )?;
-    say(
-        rt,
-        "fit past the last",
-        book.fit(
-            past,
-            Lists {
-                inputs: &[],
-                outputs: &[],
-            },
-        ),
-    )?;
-    say(rt, "class the last", book.class(last, true, true))?;
-    say(rt, "class past the last", book.class(past, true, true))?;
+    say(rt, "fit at 0", book.fit(0, lists(&[], &[])))?;
+    say(rt, "fit at the last", book.fit(last, lists(&[], &[])))?;
+    say(rt, "fit past the last", book.fit(past, lists(&[], &[])))?;
+    say(rt, "class the last", book.class(last, Class::BOTH))?;
+    say(rt, "class past the last", book.class(past, Class::BOTH))?;
     say(rt, "hide past the last", book.hide(past))?;
     say(rt, "show past the last", book.show(past))?;
     say(rt, "clear past the last", book.clear(past))
@@ -169,10 +71,7 @@ fn run_none(rt: &HostRuntime) -> anyhow::Result<()> {
 
 // Rows past the 512th stay as the caller had them.
 fn run_beyond(rt: &HostRuntime) -> anyhow::Result<()> {
-    let mut materials = vec![in rt.alloc(); MaterialRow {
-        wanted: true,
-        bought: true
-    }; 513]?;
+    let mut materials = vec![in rt.alloc(); MaterialRow::BOTH; 513]?;
     let mut units = vec![in rt.alloc(); UnitRow {
         state: RowState::Withheld,
         inputs: [7; 8],
@@ -180,19 +79,14 @@ fn run_beyond(rt: &HostRuntime) -> anyhow::Result<()> {
     }; 513]?;
     {
         let mut book = TableBook::open(materials.as_mut_slice(), units.as_mut_slice());
-        let _ = book.fit(
-            512,
-            Lists {
-                inputs: &[1],
-                outputs: &[2],
-            },
-        );
+        let _ = book.fit(512, lists(&[1], &[2]));
     }
     let material = materials.last().copied().unwrap_or(MaterialRow::PLAIN);
     let unit = units.last().copied().unwrap_or(UnitRow::FREE);
-    if !material.wanted || unit.inputs[0] != 7 {
-        return Err(anyhow!("a row past the 512th was written"));
-    }
+    ensure!(
+        material.wanted && unit.inputs[0] == 7,
+        "a row past the 512th was written"
+    );
     println!(rt; "Row 513 is as the caller had it")?;
     Ok(())
 }
@@ -210,13 +104,7 @@ fn run_lists(rt: &HostRuntime) -> anyhow::Result<()> {
     say(
         rt,
         "eight inputs and eight outputs",
-        in_table.fit(
-            1,
-            Lists {
-                inputs: &EIGHT,
-                outputs: &EIGHT,
-            },
-        ),
+        in_table.fit(1, lists(&EIGHT, &EIGHT)),
     )?;
     try_lists(rt, &mut in_table)
 }
