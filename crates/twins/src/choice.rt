@@ -1,61 +1,69 @@
 // An edit chosen by the generator, often one that has to be refused.
 use crate::generator::Generator;
-use book::{EditableBook, Lists, Refusal};
-use samples::front;
+use book::{Class, EditableBook, Refusal};
+use std::alloc::{AllocError, Global};
+use telling::lists;
 
-// A list to fit a unit with: so many of the entries.
-#[derive(Clone, Copy)]
-pub struct ListChoice {
-    entries: [u16; 9],
-    count: usize,
-}
-
-#[derive(Clone, Copy)]
+#[derive(Drop)]
 pub enum Edit {
-    Fit(u16, ListChoice, ListChoice),
-    Class(u16, bool, bool),
+    Fit {
+        unit: u16,
+        inputs: Vec<u16>,
+        outputs: Vec<u16>,
+    },
+    Class(u16, Class),
     Hide(u16),
     Show(u16),
     Clear(u16),
 }
 
 // A list of up to nine entries, each a little above the one before it, or equal to it.
-fn chosen_list(generator: &mut Generator) -> ListChoice {
-    let mut entries = [0u16; 9];
+fn chosen_list(heap: Global, generator: &mut Generator) -> Result<Vec<u16>, AllocError> {
+    let mut list = Vec::new(heap);
     let mut last = 0u16;
-    for entry in entries.iter_mut() {
+    for _ in 0..9 {
         last = last.saturating_add((generator.next() % 9 + 3) / 4);
-        *entry = last;
+        list.push(last)?;
     }
     let most = if generator.next() % 16 == 0 { 10 } else { 4 };
-    let count = (generator.next() % most) as usize;
-    ListChoice { entries, count }
+    list.truncate(usize::from(generator.next() % most));
+    Ok(list)
 }
 
-pub(crate) fn choose(generator: &mut Generator) -> Edit {
-    let number = generator.next() % 8;
-    match generator.next() % 6 {
-        0 | 1 => Edit::Fit(number, chosen_list(generator), chosen_list(generator)),
-        2 => Edit::Class(number, generator.next() % 2 == 0, generator.next() % 2 == 0),
-        3 => Edit::Hide(number),
-        4 => Edit::Show(number),
-        _ => Edit::Clear(number),
+impl Edit {
+    pub(crate) fn choose(heap: Global, generator: &mut Generator) -> Result<Edit, AllocError> {
+        let number = generator.next() % 8;
+        Ok(match generator.next() % 6 {
+            0 | 1 => Edit::Fit {
+                unit: number,
+                inputs: chosen_list(heap, generator)?,
+                outputs: chosen_list(heap, generator)?,
+            },
+            2 => Edit::Class(
+                number,
+                Class {
+                    wanted: generator.next() % 2 == 0,
+                    bought: generator.next() % 2 == 0,
+                },
+            ),
+            3 => Edit::Hide(number),
+            4 => Edit::Show(number),
+            _ => Edit::Clear(number),
+        })
     }
-}
 
-// The edit, made on a book.
-pub(crate) fn apply<B: EditableBook>(book: &mut B, edit: &Edit) -> Result<(), Refusal> {
-    match edit {
-        Edit::Fit(unit, inputs, outputs) => {
-            let lists = Lists {
-                inputs: front(&inputs.entries, inputs.count),
-                outputs: front(&outputs.entries, outputs.count),
-            };
-            book.fit(*unit, lists)
+    // The edit, made on a book.
+    pub(crate) fn apply<B: EditableBook>(&self, book: &mut B) -> Result<(), Refusal> {
+        match self {
+            Edit::Fit {
+                unit,
+                inputs,
+                outputs,
+            } => book.fit(*unit, lists(inputs.as_slice(), outputs.as_slice())),
+            Edit::Class(material, class) => book.class(*material, *class),
+            Edit::Hide(unit) => book.hide(*unit),
+            Edit::Show(unit) => book.show(*unit),
+            Edit::Clear(unit) => book.clear(*unit),
         }
-        Edit::Class(material, wanted, bought) => book.class(*material, *wanted, *bought),
-        Edit::Hide(unit) => book.hide(*unit),
-        Edit::Show(unit) => book.show(*unit),
-        Edit::Clear(unit) => book.clear(*unit),
     }
 }
