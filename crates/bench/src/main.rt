@@ -2,35 +2,21 @@
 #![tactic(auto)]
 
 mod books;
+mod kind;
 
-use anyhow::anyhow;
-use book::EditableBook;
-use books::{chain, dense};
+use anyhow::{Context, bail};
 use drawing::draw;
+use kind::Kind;
 use sheet::Sheet;
 use std::env;
 use table::{MaterialRow, TableBook, UnitRow};
 
-// The book of a kind: a chain from a bought material to a wanted one, a chain that nothing feeds, or a book in which every
-// list has eight entries.
-fn make<B: EditableBook>(kind: &str, book: &mut B, units: u16) -> anyhow::Result<()> {
-    let made = match kind {
-        "chain" => chain(book, units, 511, true),
-        "starved" => chain(book, units, 510, false),
-        "dense" => dense(book, units),
-        _ => return Err(anyhow!("the kinds are chain, starved and dense")),
-    };
-    match made {
-        Ok(()) => Ok(()),
-        Err(_) => Err(anyhow!("the book could not be made")),
-    }
-}
-
-fn run(rt: &HostRuntime, kind: &str, units: u16, times: u16) -> anyhow::Result<()> {
+fn run(rt: &HostRuntime, kind: Kind, units: u16, times: u16) -> anyhow::Result<()> {
     let mut material_rows = vec![in rt.alloc(); MaterialRow::PLAIN; 512]?;
     let mut unit_rows = vec![in rt.alloc(); UnitRow::FREE; units as usize]?;
     let mut book = TableBook::open(material_rows.as_mut_slice(), unit_rows.as_mut_slice());
-    make(kind, &mut book, units)?;
+    kind.make(&mut book, units)
+        .context("the book could not be made")?;
     let mut drawn = 0u32;
     let mut refused = 0u32;
     for _ in 0..times {
@@ -47,11 +33,11 @@ fn main(rt: HostRuntime) -> anyhow::Result<()> {
     let mut words = env::args(&rt)?;
     let _ = words.next();
     let (Some(kind), Some(units), Some(times)) = (words.next(), words.next(), words.next()) else {
-        return Err(anyhow!("three words are wanted: the kind, how many units, how many times"));
+        bail!("three words are wanted: the kind, how many units, how many times");
     };
     run(
         &rt,
-        kind.as_str(),
+        kind.as_str().parse::<Kind>()?,
         units.as_str().parse::<u16>()?,
         times.as_str().parse::<u16>()?,
     )
