@@ -2,22 +2,22 @@
 #![tactic(auto)]
 
 mod borders;
+mod drawings;
 mod reading;
-mod telling;
 
 use borders::draw_borders;
+use drawings::tell_drawing;
 use reading::{fill, unit_count};
 use table::{MaterialRow, TableBook, UnitRow};
-use telling::tell_drawing;
 
 // Makes the farm in a table and tells what its drawing is. Each letter is a material's, as on a page; each unit is what
 // it takes, `>`, what it makes, and `;`.
 fn show(rt: &HostRuntime, title: &str, letters: &str, units: &str) -> anyhow::Result<()> {
     println!(rt; "{title}")?;
     let mut material_rows = vec![in rt.alloc(); MaterialRow::PLAIN; letters.len()]?;
-    let mut unit_rows = vec![in rt.alloc(); UnitRow::FREE; unit_count(units.as_bytes())]?;
+    let mut unit_rows = vec![in rt.alloc(); UnitRow::FREE; unit_count(units)]?;
     let mut book = TableBook::open(material_rows.as_mut_slice(), unit_rows.as_mut_slice());
-    fill(rt, &mut book, letters.as_bytes(), units.as_bytes())?;
+    fill(rt, &mut book, letters, units)?;
     tell_drawing(rt, &mut book)
 }
 
