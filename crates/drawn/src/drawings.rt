@@ -3,25 +3,19 @@ use book::Book;
 use drawing::draw;
 use sheet::Sheet;
 use structure::Mark;
+use telling::tell_answer;
 
-// A mark in words.
-fn word(mark: Option<Mark>) -> &'static str {
-    match mark {
-        Some(Mark::Drawn) => "drawn",
-        Some(Mark::Idle) => "idle",
-        Some(Mark::Unasked) => "unasked",
-        None => "no such number",
-    }
-}
-
+// Tells the mark and the rank of each unit, the mark of each material, and how many of both are drawn. A number that the
+// sheet has no place for is told as on a new sheet: unasked, without a rank.
 fn tell_sheet(rt: &HostRuntime, sheet: &Sheet, units: u16, materials: u16) -> anyhow::Result<()> {
+    // Two loops: only a unit has a rank.
     for unit in 1..=units {
-        let mark = word(sheet.unit_mark(unit));
+        let mark = sheet.unit_mark(unit).unwrap_or(Mark::Unasked);
         let rank = sheet.rank(unit).unwrap_or(0);
         println!(rt; "  unit {unit}: {mark}, rank {rank}")?;
     }
     for material in 1..=materials {
-        let mark = word(sheet.material_mark(material));
+        let mark = sheet.material_mark(material).unwrap_or(Mark::Unasked);
         println!(rt; "  material {material}: {mark}")?;
     }
     let units_drawn = sheet.units_drawn();
@@ -34,12 +28,7 @@ fn tell_sheet(rt: &HostRuntime, sheet: &Sheet, units: u16, materials: u16) -> an
 pub(crate) fn draw_and_tell<B: Book>(rt: &HostRuntime, book: &mut B) -> anyhow::Result<()> {
     let units = book.units();
     let materials = book.materials();
-    match draw(book, Sheet::new()) {
-        Ok(sheet) => tell_sheet(rt, &sheet, units, materials),
-        Err(refusal) => {
-            let number = refusal.number();
-            println!(rt; "  refused with {number}")?;
-            Ok(())
-        }
-    }
+    tell_answer(rt, draw(book, Sheet::new()), |sheet| {
+        tell_sheet(rt, &sheet, units, materials)
+    })
 }

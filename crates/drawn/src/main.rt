@@ -3,51 +3,12 @@
 
 mod drawings;
 
-use book::{EditableBook, Lists, Refusal};
+use book::{Class, EditableBook};
 use drawings::draw_and_tell;
 use pagebook::PageBook;
 use samples::SMALL_FARM;
 use table::{MaterialRow, TableBook, UnitRow};
-
-// What came of an edit.
-fn say(rt: &HostRuntime, edit: &str, answer: Result<(), Refusal>) -> anyhow::Result<()> {
-    match answer {
-        Ok(()) => println!(rt; "  {edit}: done")?,
-        Err(refusal) => {
-            let number = refusal.number();
-            println!(rt; "  {edit}: refused with {number}")?;
-        }
-    }
-    Ok(())
-}
-
-// The small farm, made in a book of four plain materials and two free numbers.
-fn make_farm<B: EditableBook>(rt: &HostRuntime, book: &mut B) -> anyhow::Result<()> {
-    say(rt, "material 1 is wanted", book.class(1, true, false))?;
-    say(rt, "material 2 is bought", book.class(2, false, true))?;
-    say(
-        rt,
-        "fit at 1: takes 2, makes 1 and 3",
-        book.fit(
-            1,
-            Lists {
-                inputs: &[2],
-                outputs: &[1, 3],
-            },
-        ),
-    )?;
-    say(
-        rt,
-        "fit at 2: takes 4, makes 1",
-        book.fit(
-            2,
-            Lists {
-                inputs: &[4],
-                outputs: &[1],
-            },
-        ),
-    )
-}
+use telling::make_farm;
 
 // The small farm drawn, from whatever book it stands in; then with its only useful unit hidden, and with nothing bought.
 fn tour_drawing<B: EditableBook>(rt: &HostRuntime, book: &mut B) -> anyhow::Result<()> {
@@ -56,7 +17,7 @@ fn tour_drawing<B: EditableBook>(rt: &HostRuntime, book: &mut B) -> anyhow::Resu
     let _ = book.hide(1);
     draw_and_tell(rt, book)?;
     println!(rt; "The same, nothing bought")?;
-    let _ = book.class(2, false, false);
+    let _ = book.class(2, Class::PLAIN);
     draw_and_tell(rt, book)
 }
 
