@@ -3,9 +3,10 @@ ghost use Rattle.std.specs.Prelude.{◌≡◌, ℕ, ◌/◌, ◌<◌, ◌≤◌,
 ghost use Rattle.drawing.specs.Lists.{Walkable, Placed, LastBelow, after, with_entry};
 
 use crate::flags::NUMBERS;
+use book::MOST_ENTRIES;
 
 // The most entries that a list has, and the places for all lists of one side.
-const LIST: usize = 8;
+const LIST: usize = MOST_ENTRIES;
 
 const ENTRIES: usize = LIST * NUMBERS;
 

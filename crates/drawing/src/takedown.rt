@@ -42,20 +42,8 @@ pub(crate) fn take_lists<B: Book>(book: &mut B, network: &mut Network)
 {
     let units = network.units;
     let standing = network.standing;
-    read_lists(
-        book,
-        Side::Inputs,
-        units,
-        &standing,
-        &mut network.inputs,
-    );
-    read_lists(
-        book,
-        Side::Outputs,
-        units,
-        &standing,
-        &mut network.outputs,
-    );
+    read_lists(book, Side::Inputs, units, &standing, &mut network.inputs);
+    read_lists(book, Side::Outputs, units, &standing, &mut network.outputs);
 }
 
 // Reads which materials are wanted and which are bought. No flag is set yet.

@@ -3,6 +3,8 @@
 ghost use Rattle.std.specs.Prelude.{◌≡◌};
 ghost use Rattle.page.specs.Layout.{line_start, material, page_length, unit};
 
+use book::MOST_ENTRIES;
+
 // How many columns a letter, a number and a newline take.
 pub const LETTER: usize = 1;
 
@@ -11,7 +13,7 @@ pub const NUMBER: usize = 5;
 pub const NEWLINE: usize = 1;
 
 // How many fields each of a unit's two lists has, and how many columns they take together.
-pub const LIST_FIELDS: usize = 8;
+pub const LIST_FIELDS: usize = MOST_ENTRIES;
 
 pub const LIST: usize = LIST_FIELDS * NUMBER;
 

@@ -6,7 +6,7 @@ ghost use Rattle.book.specs.Asked.{list_on};
 ghost use Rattle.table.specs.Rows.{fitted_in, found};
 
 use crate::lists::front;
-use book::Side;
+use book::{MOST_ENTRIES, Side, place_of};
 
 // The row of a material, and what a unit's row says of its number.
 pub use book::{Class as MaterialRow, State as RowState};
@@ -15,7 +15,7 @@ pub use book::{Class as MaterialRow, State as RowState};
 const MOST: usize = 512;
 
 // A row has this many places for each list of its unit.
-pub const PLACES: usize = 8;
+pub const PLACES: usize = MOST_ENTRIES;
 
 // The row of a unit number: its state, and its lists in ascending order, with 0 in each place that is not used.
 #[derive(Clone, Copy, PartialEq, Eq, Debug)]
@@ -57,11 +57,7 @@ pub(crate) fn used(rows: usize) -> u16
 pub(crate) fn row_place(number: u16, rows: usize) -> Option<usize>
     ensures { result ≡ (if inside number (min 512 rows) then Some (number - 1) else None) }
 {
-    if (1..=used(rows)).contains(&number) {
-        Some(usize::from(number) - 1)
-    } else {
-        None
-    }
+    place_of(number, used(rows))
 }
 
 // The row with that number, where the table uses one.
