@@ -1,7 +1,6 @@
 -- What a book tells of its lists and of numbers that it does not have.
 use Rattle.std.proofs.Common.{◌≡◌, ℕ, ◌-◌, ◌<◌, ◌≤◌, Bool, true, false, leb, ◌⊎◌, List, [], length, get_or, Some, None, Option, unwrap_or, sym, refl, ap, ◌∙◌, inl, inr, ⊎_elim, arith}
 use Rattle.std.proofs.ByRecursion.{All-get_or}
-use Rattle.std.proofs.lemmas.List.{get_or_past}
 use Rattle.std.proofs.lemmas.Bool.{leb-true, le-leb, lt-leb, and_from, and_left, and_right, and_parts, cond-true, cond-false, cond_both, cases_lt}
 use Rattle.book.specs.Meaning.{Fitted, UnitState, free, standing, withheld, Meaning, material_count, unit_count, Listed, StateWithin, WellFormed}
 use Rattle.book.specs.Declined.{inside, state_at, is_standing}
@@ -57,21 +56,10 @@ idle_list m side u e =
     ap (list_of side) (cond-true (inside u (unit_count m)) (told_of (state_at m u)) None i ∙ idle_state (state_at m u) idle))
     (cases_inside u (unit_count m))
 
--- the entry at a place of a list, from 1; past its end it is 0
-entry_told : (side : Fitted → List ℕ) (place : ℕ) (o : Option Fitted) → 1 ≤ place → unwrap_or (entry_in side place o) 0 ≡ get_or (list_of side o) (place - 1) 0
-entry_told side place None l = refl
-entry_told side place (Some f) l =
-    let own : Option ℕ = Some (get_or (side f) (place - 1) 0) in
-    ⊎_elim
-    (λ (h : length (side f) < place).
-    ap (λ o. unwrap_or o 0) (cond-false (inside place (length (side f))) own None (outside_range place (length (side f)) (inr h))) ∙ sym (get_or_past (side f) (place - 1) 0 (omega arith)))
-    (λ (h : place ≤ length (side f)). ap (λ o. unwrap_or o 0) (cond-true (inside place (length (side f))) own None (inside_range place (length (side f)) l h)))
-    (cases_lt (length (side f)) place)
-
--- so an answer to the question of direction e tells the entry of direction d, where they are the same
-pub entry_answered : (d e : Side) (u k x : ℕ) (m : Meaning) (o r : Option ℕ) → 1 ≤ k → d ≡ e → x ≡ unwrap_or o 0 → o ≡ r → r ≡ entry_in (list_on e) k (fitted_at u m) → x ≡ get_or (list_told d u m) (k - 1) 0
-entry_answered d e u k x m o r l same read kept told =
-    read ∙ (ap (λ o. unwrap_or o 0) (kept ∙ told) ∙ (entry_told (list_on e) k (fitted_at u m) l ∙ ap (λ (f : Side). get_or (list_told f u m) (k - 1) 0) (sym same)))
+-- the entry at a place of a list, from 1
+pub entry_there : (side : Fitted → List ℕ) (place : ℕ) (o : Option Fitted) → 1 ≤ place → place ≤ length (list_of side o) → entry_in side place o ≡ Some (get_or (list_of side o) (place - 1) 0)
+entry_there side place None l h = absurd (omega arith)
+entry_there side place (Some f) l h = cond-true (inside place (length (side f))) (Some (get_or (side f) (place - 1) 0)) None (inside_range place (length (side f)) l h)
 
 -- a list that is told has at most eight entries, each a material of the book
 none_listed : (l : ℕ) → Listed l []

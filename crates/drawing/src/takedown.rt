@@ -122,11 +122,12 @@ fn entry_count<B: Book>(book: &mut B, side: Side, unit: u16) -> u16
     book.entry_count(unit, side).unwrap_or(0)
 }
 
-// The entry at a place of a unit's list, from 1; past the end of the list it is 0.
+// The entry at a place of a unit's list, from 1.
 fn entry<B: Book>(book: &mut B, side: Side, unit: u16, place: u16) -> u16
-    requires { 1 ≤ place }
+    requires from_one { 1 ≤ place }
+    requires there { place ≤ length (list_told side unit (B.Book.meaning book.old)) }
     ensures answer { result ≡ slice_index (list_told side unit (B.Book.meaning book.old)) (place - 1) }
     ensures same { book.new ≡ book.old }
 {
-    book.entry(unit, side, place).unwrap_or(0)
+    book.entry(unit, side, place).unwrap()
 }

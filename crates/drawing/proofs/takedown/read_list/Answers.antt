@@ -8,6 +8,13 @@ use Rattle.drawing.proofs.Telling.{asked_again, listed, entry_known, entry_here}
 use Rattle.drawing.proofs.TakingDown.{list_own, list_other, list_more}
 use Rattle.drawing.proofs.takedown.read_list.Goals as goal
 
+pub entry-requires : goal.entry-requires
+entry-requires g c =
+    let told : g.row.B.Denot → List ℕ = λ b. list_told c.args.side c.args.unit (g.B.Book.meaning b) in
+    let now : told c.loop-place.book ≡ told c.entry_count-count.new.book = ap told c.loop-place.invariant.0 in
+    let counted = asked_again (λ b. length (told b)) c.entry_count-count.ensures.answer (sym c.entry_count-count.ensures.same) in
+    record { from_one = omega arith; there = omega (arith, ap length now) }
+
 pub push-requires : goal.push-requires
 push-requires g c =
     let d = c.args.side in
