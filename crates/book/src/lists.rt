@@ -25,6 +25,7 @@ fn is_fitting(list: &[u16], materials: u16) -> bool
 fn is_climbing(list: &[u16], highest: u16) -> bool
     ensures { result ≡ climbs 0 highest list.now }
 {
+    // A loop: each number is held against the one before it.
     let mut last = 0;
     for number in list {
         if *number <= last || *number > highest {

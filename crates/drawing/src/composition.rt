@@ -75,7 +75,8 @@ impl<'a> Needs<'a> {
     }
 }
 
-// Gives the rank of a need to each live unit that makes its material and has none, and asks for what that unit takes.
+// Gives the rank of a need to each live unit that makes its material and has none, and asks for what that unit takes. The
+// network and what is live stand apart from what changes, so that nothing has to promise that they stay.
 fn rank_makers(
     network: &Network,
     live: &[bool; NUMBERS],
@@ -109,7 +110,8 @@ fn spread(network: &Network, live: &[bool; NUMBERS], ranks: &mut [u16; NUMBERS],
     }
 }
 
-// The rank of each live unit from which a path through live units leads to a wanted material; 0 for every other number.
+// The rank of each live unit from which a path through live units leads to a wanted material; 0 for every other number, as
+// a sheet has it.
 pub(crate) fn compose(network: &Network, live: &[bool; NUMBERS]) -> [u16; NUMBERS]
     ensures { Composed (taken_down network.now) (flagged live.now) result }
 {

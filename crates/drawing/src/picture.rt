@@ -33,6 +33,7 @@ fn marks_for(drawn: &[bool; NUMBERS], there: &[bool; NUMBERS]) -> [Mark; PLACES]
     ensures { MarksFor (flagged drawn.now) (flagged there.now) result }
 {
     let mut marks = [Mark::Unasked; PLACES];
+    // By place: a proof knows nothing of items that stand beside lent ones.
     for (place, mark) in marks.iter_mut().enumerate() {
         *mark = mark_for(drawn[place + 1], there[place + 1]);
     }

@@ -27,6 +27,7 @@ fn any_bought(entries: &[u16], bought: &[bool; NUMBERS]) -> bool
     requires { Placed entries.now }
     ensures { Decides result ((x : ℕ) × Among x entries.now × Member (flagged bought.now) x) }
 {
+    // A loop: what is known of the entries is not known in a closure.
     for x in entries {
         if bought[*x as usize] {
             return true;

@@ -70,8 +70,9 @@ pub(crate) fn class_in(letter: u8) -> Result<Class, FieldFault>
     Class::of_letter(letter).ok_or(FieldFault)
 }
 
-// The highest material that a unit's line may name, by its letter: none where the number is free ('-'), and any of the
-// page's `materials` where a unit stands ('S'). A withheld number ('W') is no part of a page that is read.
+// The highest material that a unit's line may name, by its letter: any of the page's `materials` where a unit stands ('S'),
+// and none where the number is free ('-'), which is said as 0, since no material's number is at most 0. A withheld number
+// ('W') is no part of a page that is read.
 pub(crate) fn highest_named(letter: u8, materials: u16) -> Result<u16, FieldFault>
     ensures told { FieldTold (one_of (45 ∷ (83 ∷ []))) (letter ∷ []) result }
     ensures highest { IfOk result (λ h. h ≡ (if nat_eq letter 45 then 0 else materials)) }

@@ -20,7 +20,8 @@ pub struct LineFault {
     pub column: u16,
 }
 
-// What was read from a field, or the fault of the line whose field begins at this column.
+// What was read from a field, or the fault of the line whose field begins at this column. A function, so that ten calls
+// share one closure.
 fn at_column<T>(column: u16, read: Result<T, FieldFault>) -> Result<T, LineFault>
     ensures { result ≡ at_column column read }
 {

@@ -26,8 +26,8 @@ fn has_room(size: usize, materials: u32, units: u32) -> bool
         && page_length(materials as u16, units as u16) <= size
 }
 
-// How many materials and unit numbers the first line shows; none of either where no page with such counts could stand in
-// the bytes.
+// How many materials and unit numbers the first line shows. Where no page with such counts could stand in the bytes, there
+// are none of either, as in the empty book.
 fn counts_shown(bytes: &[u8]) -> (u16, u16)
     ensures materials { result.0 ≡ materials_on bytes.now }
     ensures units { result.1 ≡ units_on bytes.now }

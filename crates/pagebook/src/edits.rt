@@ -1,4 +1,5 @@
 // A page book takes edits. Each makes sure that nothing refuses it before it writes, so that a refused edit writes nothing.
+// Hiding and showing differ in what they ask, in what they write and in every refusal, so each says its own.
 use crate::PageBook;
 use crate::fields::put_unit;
 use book::{Class, EditableBook, Lists, Refusal, State};

@@ -15,7 +15,7 @@ use columns::Content;
 use page::layout::{INPUTS, LIST, NUMBER, OUTPUTS};
 use page::letters::Lettered;
 
-// The number that the field shows; 0 where it shows none.
+// The number that the field shows; 0 where it shows none, which no list and no count has.
 pub(crate) fn number_in(field: &[u8]) -> u32
     requires { length field.now ≡ number_width }
     ensures { result ≡ number_shown field.now }

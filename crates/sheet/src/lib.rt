@@ -18,6 +18,7 @@ pub const PLACES: usize = MOST_NUMBERS;
 pub struct Sheet {
     unit_marks: [Mark; PLACES],
     material_marks: [Mark; PLACES],
+    // 0 for a number that is not drawn.
     ranks: [u16; PLACES],
     units_drawn: u16,
     materials_drawn: u16,

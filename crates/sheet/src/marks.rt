@@ -21,6 +21,7 @@ fn place_of(number: u16) -> Option<usize>
     book::place_of(number, PLACES as u16)
 }
 
+// The questions of a sheet, one for each of its arrays and counts.
 impl Sheet {
     // A new sheet is unasked throughout.
     pub fn new() -> Sheet

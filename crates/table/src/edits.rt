@@ -1,4 +1,5 @@
-// The edits of a table. An accepted edit writes one row; a refused one writes nothing.
+// The edits of a table. An accepted edit writes one row; a refused one writes nothing. Hiding and showing differ in what
+// they ask, in what they write and in every refusal, so each says its own.
 ghost use Rattle.std.specs.Prelude.{◌≡◌, ◌-◌, ◌<◌, length, IfSome, if◌then◌else◌, Some, None};
 ghost use Rattle.book.specs.Declined.{withheld_at};
 ghost use Rattle.table.specs.Tables.{table_meaning};

@@ -17,7 +17,8 @@ const MOST: usize = 512;
 // A row has this many places for each list of its unit.
 pub const PLACES: usize = MOST_ENTRIES;
 
-// The row of a unit number: its state, and its lists in ascending order, with 0 in each place that is not used.
+// The row of a unit number: its state, and its lists in ascending order, with 0 in each place that is not used. A row is
+// lent memory, so its size is fixed.
 #[derive(Clone, Copy, PartialEq, Eq, Debug)]
 pub struct UnitRow {
     pub state: RowState,

@@ -36,7 +36,7 @@ pub(crate) fn put_material<B: Book>(book: &mut B, line: &mut [u8], material: u16
     newline[0] = b'\n';
 }
 
-// Puts the line of a unit number.
+// Puts the line of a unit number: letter and number as on a material's, and two lists between them and the end.
 #[tactic(auto, using(std::proofs::lemmas::Grind::common_steps, crate::proofs::Putting::only_set))]
 pub(crate) fn put_unit<B: Book>(book: &mut B, line: &mut [u8], unit: u16)
     requires { length line.old ≡ 87 }
