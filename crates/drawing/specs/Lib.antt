@@ -1,6 +1,7 @@
 pub mod Flags
 pub mod Lists
 pub mod Sides
+pub mod Units
 pub mod Network
 pub mod TakingDown
 pub mod Picture

@@ -9,7 +9,6 @@ ghost use Rattle.drawing.specs.Network.{taken_down};
 ghost use Rattle.drawing.specs.Composition.{Composed, Asked, Spreading, asked_for};
 
 use crate::flags::{NUMBERS, no_flags};
-use crate::lists::SideLists;
 use crate::network::Network;
 use queue::WaitingList;
 
@@ -89,14 +88,11 @@ fn rank_makers(
     ensures spreading { Spreading (taken_down network.now) (flagged live.now) needs.new.asked ranks.new (waits needs.new.waiting) need.rank }
     ensures equally { length (waits needs.new.waiting) + asked_for needs.old.asked ≡ length (waits needs.old.waiting) + asked_for needs.new.asked }
 {
-    let mut next = network.outputs.last_place(need.material);
-    while let Some(place) = next {
-        let unit = SideLists::owner(place);
+    for unit in network.outputs.units_with(need.material) {
         if live[unit] && ranks[unit] == 0 {
             ranks[unit] = need.rank;
             needs.ask_each(network.inputs.list(unit), need.rank + 1);
         }
-        next = network.outputs.place_before(place);
     }
 }
 

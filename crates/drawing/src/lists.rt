@@ -1,6 +1,9 @@
 // The lists of one side of all units, of what they take or of what they make, walked by unit and by material.
-ghost use Rattle.std.specs.Prelude.{◌≡◌, ℕ, ◌/◌, ◌<◌, ◌≤◌, [], length, slice_index};
-ghost use Rattle.drawing.specs.Lists.{Walkable, Placed, LastBelow, after, with_entry};
+ghost use Rattle.std.specs.Prelude.{◌≡◌, ℕ, ◌<◌, ◌≤◌, ◌↔◌, true, [], length, slice_index};
+ghost use Rattle.std.specs.Option.{ForSome};
+ghost use Rattle.std.specs.Iterator.{YieldsFirst, item_count};
+ghost use Rattle.book.specs.Layers.{names};
+ghost use Rattle.drawing.specs.Lists.{Walkable, Placed, after, with_entry};
 
 use crate::flags::NUMBERS;
 use book::MOST_ENTRIES;
@@ -36,6 +39,7 @@ fn linked_place(link: u16) -> Option<u16>
 
 impl SideLists {
     ghost use Rattle.drawing.specs.Sides.{list_at, Holds};
+    ghost use Rattle.drawing.specs.Units.{units_left};
 
     // Lists that have no entry.
     pub(crate) fn empty() -> Self
@@ -60,29 +64,16 @@ impl SideLists {
         &self.entries[first..first + self.counts[unit] as usize]
     }
 
-    // The place of the last entry that is this material.
-    pub(crate) fn last_place(&self, material: u16) -> Option<u16>
+    // The units whose lists name a material.
+    pub(crate) fn units_with(&self, material: u16) -> UnitsWith<'_>
         requires some { 1 ≤ material }
         requires known { material ≤ 1024 }
-        ensures { LastBelow self.now.entries material (after result) 8200 }
+        ensures { (u : ℕ) → (names u (units_left result) ≡ true) ↔ (names material (list_at self.now u) ≡ true) }
     {
-        linked_place(self.heads[material as usize])
-    }
-
-    // The place of the last entry before this one that is the same material.
-    pub(crate) fn place_before(&self, place: u16) -> Option<u16>
-        requires within { place < 8200 }
-        requires some { 1 ≤ slice_index self.now.entries place }
-        ensures { LastBelow self.now.entries (slice_index self.now.entries place) (after result) place }
-    {
-        linked_place(self.links[place as usize])
-    }
-
-    // The unit whose list has the entry at this place.
-    pub(crate) fn owner(place: u16) -> usize
-        ensures { result ≡ place / 8 }
-    {
-        place as usize / LIST
+        UnitsWith {
+            lists: self,
+            next: linked_place(self.heads[material as usize]),
+        }
     }
 
     // Puts one more entry at the end of a unit's list. The units after it have no entry yet.
@@ -101,5 +92,31 @@ impl SideLists {
         self.links[place] = self.heads[kind];
         self.heads[kind] = (place + 1) as u16;
         self.counts[own] += 1;
+    }
+}
+
+// The units whose lists name one material, from its last entry to its first.
+#[derive(Drop)]
+pub(crate) struct UnitsWith<'a> {
+    lists: &'a SideLists,
+    // The place of the entry that comes next.
+    next: Option<u16>,
+    ghost within: { ForSome next (λ place. place < 8200) },
+    ghost some: { ForSome next (λ place. 1 ≤ slice_index lists.now.entries place) },
+}
+
+impl Iterator for UnitsWith<'_> {
+    ghost use Rattle.drawing.specs.Units.{units_left};
+
+    type Item = usize;
+
+    ghost next_gives = { YieldsFirst units_left };
+
+    ghost remaining = { item_count units_left };
+
+    fn next(&mut self) -> Option<usize> {
+        let place = self.next? as usize;
+        self.next = linked_place(self.lists.links[place]);
+        Some(place / LIST)
     }
 }

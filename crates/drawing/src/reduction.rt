@@ -9,7 +9,6 @@ ghost use Rattle.drawing.specs.Network.{taken_down};
 ghost use Rattle.drawing.specs.Reduction.{Among, times, zeros, Enlisted, Seeded, Reducing, Released};
 
 use crate::flags::{NUMBERS, no_flags};
-use crate::lists::SideLists;
 use crate::network::Network;
 use queue::WaitingList;
 
@@ -131,14 +130,11 @@ impl<'a> Reduction<'a> {
         ensures after { Reducing (taken_down network.now) self.new.reduced.live self.new.reduced.makers (waits self.new.waiting) }
         ensures grown { length (waits self.new.waiting) + zeros self.old.reduced.makers ≤ length (waits self.old.waiting) + zeros self.new.reduced.makers }
     {
-        let mut next = network.inputs.last_place(material);
-        while let Some(place) = next {
-            let unit = SideLists::owner(place);
+        for unit in network.inputs.units_with(material) {
             if self.reduced.live[unit] {
                 self.reduced.live[unit] = false;
                 self.release(network.outputs.list(unit));
             }
-            next = network.inputs.place_before(place);
         }
     }
 
