@@ -62,6 +62,10 @@ module _ {R X : Type 0} (g : R → X) (rows : List R) (k : ℕ) where
       asked_row none (λ x. Some (f x))
       ∙ elim (found k rows) as (λ o. option_and_then (λ r. Some (f (g r))) o ≡ option_map (λ r. f (g r)) o) [ None ↦ refl | Some r ↦ refl ]
 
+-- a unit stands at number k of the table, in this row
+abbrev pub Stands : TableBook → ℕ → UnitRow → Type 0
+Stands t k row = option_map (fitted_in (material_count (table_meaning t))) (Some row) ≡ fitted_at k (table_meaning t)
+
 -- what the table tells of number k, by the row that the number has
 module _ (t : TableBook) (k : ℕ) where
   pub wanted_row : option_map (λ r. r.wanted) (found k t.materials.now) ≡ wanted_at k (table_meaning t)
@@ -78,7 +82,7 @@ module _ (t : TableBook) (k : ℕ) where
       rw count_materials (sym (asked_row (state_in (used t.materials.now)) t.units.now k free told_of))
 
   -- what is told of a standing unit's list, by the list that its row holds
-  module _ (side : Side) (l : ℕ) (row : UnitRow) (list : List ℕ) (known : l ≡ material_count (table_meaning t)) (held : list ≡ list_on side (fitted_in l row)) (told : option_map (fitted_in (material_count (table_meaning t))) (Some row) ≡ fitted_at k (table_meaning t)) where
+  module _ (side : Side) (l : ℕ) (row : UnitRow) (list : List ℕ) (known : l ≡ material_count (table_meaning t)) (held : list ≡ list_on side (fitted_in l row)) (told : Stands t k row) where
     list_told : list ≡ list_on side (fitted_in (material_count (table_meaning t)) row)
     list_told = held ∙ ap (λ n. list_on side (fitted_in n row)) known
 

@@ -1,6 +1,6 @@
 // The questions of a table, answered from the row of the number. One outside its range is answered by absence.
 ghost use Rattle.std.specs.Prelude.{◌≡◌};
-ghost use Rattle.std.specs.Option.{option_map};
+ghost use Rattle.std.specs.Option.{option_map, option_copied};
 ghost use Rattle.book.specs.Meaning.{material_count};
 ghost use Rattle.book.specs.Asked.{fitted_at};
 ghost use Rattle.table.specs.Rows.{fitted_in, found};
@@ -38,16 +38,18 @@ impl<'a> Book for TableBook<'a> {
     }
 
     fn entry_count(&mut self, unit: u16, side: Side) -> Option<u16> {
+        let materials = self.materials();
         let row = self.standing_row(unit)?;
-        Some(row.list(side, self.materials()).len() as u16)
+        Some(row.list(side, materials).len() as u16)
     }
 
     // Inlined, since whoever writes a page out asks for every entry.
     #[inline(always)]
     fn entry(&mut self, unit: u16, side: Side, place: u16) -> Option<u16> {
+        let materials = self.materials();
         let row = self.standing_row(unit)?;
         let index = place.checked_sub(1)?;
-        let list = row.list(side, self.materials());
+        let list = row.list(side, materials);
         list.get(usize::from(index)).copied()
     }
 }
@@ -68,11 +70,9 @@ impl<'a> TableBook<'a> {
     }
 
     // The row of a standing unit.
-    fn standing_row(&self, unit: u16) -> Option<UnitRow>
-        ensures { option_map (fitted_in (material_count (table_meaning self.now))) result ≡ fitted_at unit (table_meaning self.now) }
+    fn standing_row(&self, unit: u16) -> Option<&UnitRow>
+        ensures { option_map (fitted_in (material_count (table_meaning self.now))) (option_copied result) ≡ fitted_at unit (table_meaning self.now) }
     {
-        row_at(self.units, unit)
-            .filter(|row| row.state == RowState::Standing)
-            .copied()
+        row_at(self.units, unit).filter(|row| row.state == RowState::Standing)
     }
 }
