@@ -1,7 +1,7 @@
 // Number columns: a number stands right-justified in a field of fixed width, spaces to its left, no zero in front.
 #![tactic(auto)]
 
-ghost use Rattle.std.specs.Prelude.{◌≡◌, ℕ, ◌+◌, ◌%◌, ◌<◌, length, decimal, Decides};
+ghost use Rattle.std.specs.Prelude.{◌≡◌, ℕ, ◌+◌, ◌%◌, ◌<◌, length, decimal, Decides, Some, codes};
 ghost use Rattle.columns.specs.Columns.{column, Fits, Shows, Holds, Wrote};
 ghost use Rattle.columns.specs.Reading.{Next};
 
@@ -62,6 +62,8 @@ fn next(so_far: Content, byte: u8) -> Content
 pub struct DoesNotFit;
 
 impl fmt::Display for DoesNotFit {
+    ghost output = { λ _. Some (codes "the number does not fit into the field") };
+
     fn fmt<W: fmt::Write>(&self, f: &mut fmt::Formatter<W>) -> fmt::Result {
         f.write_str("the number does not fit into the field")
     }

@@ -2,21 +2,21 @@
 use book::Book;
 use drawing::draw;
 use sheet::Sheet;
-use structure::Mark;
 use telling::tell_answer;
 
-// Tells the mark and the rank of each unit, the mark of each material, and how many of both are drawn. A number that the
-// sheet has no place for is told as on a new sheet: unasked, without a rank.
+// Tells the mark and the rank of each unit, the mark of each material, and how many of both are drawn. Of a number that the
+// sheet has no place for there is nothing to tell.
 fn tell_sheet(rt: &HostRuntime, sheet: &Sheet, units: u16, materials: u16) -> anyhow::Result<()> {
     // Two loops: only a unit has a rank.
     for unit in 1..=units {
-        let mark = sheet.unit_mark(unit).unwrap_or(Mark::Unasked);
-        let rank = sheet.rank(unit).unwrap_or(0);
-        println!(rt; "  unit {unit}: {mark}, rank {rank}")?;
+        if let (Some(mark), Some(rank)) = (sheet.unit_mark(unit), sheet.rank(unit)) {
+            println!(rt; "  unit {unit}: {mark}, rank {rank}")?;
+        }
     }
     for material in 1..=materials {
-        let mark = sheet.material_mark(material).unwrap_or(Mark::Unasked);
-        println!(rt; "  material {material}: {mark}")?;
+        if let Some(mark) = sheet.material_mark(material) {
+            println!(rt; "  material {material}: {mark}")?;
+        }
     }
     let units_drawn = sheet.units_drawn();
     let materials_drawn = sheet.materials_drawn();

@@ -16,6 +16,14 @@ fn make_chain<B: EditableBook>(book: &mut B, units: u16) -> Result<(), Refusal> 
     book.class(512, Class::BOUGHT)
 }
 
+// The ranks at both ends of a chain of so many units, and how many are drawn.
+fn tell_ends(rt: &HostRuntime, sheet: &Sheet, units: u16) -> anyhow::Result<()> {
+    let first = sheet.rank(1).unwrap_or(0);
+    let last = sheet.rank(units).unwrap_or(0);
+    println!(rt; "  rank {first} at its near end, {last} at its far end")?;
+    tell_counts(rt, sheet)
+}
+
 // A chain of 511 units from material 512, which is bought, to material 1, which is wanted; its far end stands or not.
 fn draw_chain(rt: &HostRuntime, title: &str, fitted: u16) -> anyhow::Result<()> {
     println!(rt; "{title}")?;
@@ -24,10 +32,7 @@ fn draw_chain(rt: &HostRuntime, title: &str, fitted: u16) -> anyhow::Result<()> 
     let mut book = TableBook::open(&mut material_rows, &mut unit_rows);
     make_chain(&mut book, fitted).context("the chain could not be made")?;
     tell_answer(rt, draw(&mut book, Sheet::new()), |sheet| {
-        let first = sheet.rank(1).unwrap_or(0);
-        let last = sheet.rank(fitted).unwrap_or(0);
-        println!(rt; "  rank {first} at its near end, {last} at its far end")?;
-        tell_counts(rt, &sheet)
+        tell_ends(rt, &sheet, fitted)
     })
 }
 

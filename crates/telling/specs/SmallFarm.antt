@@ -1,11 +1,9 @@
 -- The small farm, and the book that it is made in, as what a book means.
 use Rattle.std.specs.Prelude.{true, false, [], ◌∷◌}
+use Rattle.book.specs.Asked.{plain}
 use Rattle.book.specs.Meaning.{Material, Meaning, free, standing}
 
 -- what is known of a material
-abbrev pub plain : Material
-plain = record { wanted = false; bought = false }
-
 abbrev pub wanted : Material
 wanted = record { wanted = true; bought = false }
 
