@@ -1,11 +1,10 @@
 -- A column that is written from its last byte to its first. Assumes nothing.
-use Rattle.std.proofs.Common.{◌≡◌, ℕ, ◌+◌, ◌-◌, ◌/◌, ◌%◌, ◌<◌, ◌≤◌, cond, eqb, List, [], ◌∷◌, ◌++◌, length, drop, set, decimal, sym, ap, ◌∙◌, inl, inr, arith, length-append}
-use Rattle.std.proofs.lemmas.List.{append_assoc, append-nil, drop-set, drop_all, length_push, length-set, nil_from_length}
+use Rattle.std.proofs.Common.{◌≡◌, ℕ, ◌+◌, ◌-◌, ◌/◌, ◌%◌, ◌<◌, ◌≤◌, cond, eqb, List, [], ◌∷◌, ◌++◌, length, drop, set, decimal, ap, inl, inr, arith, length-append}
+use Rattle.std.proofs.lemmas.List.{append_assoc, append-nil, drop-set, drop_all, length_push, length-set, nil_from_length, replicate_more}
 use Rattle.std.proofs.lemmas.Bool.{cases_lt, eq-eqb, ne_eqb, cond-true, cond-false}
 use Rattle.std.proofs.lemmas.Fmt.{decimal_digit, decimal_step, decimal_nonempty}
 use Rattle.columns.specs.Columns.{blanks, column, Fits}
 use Rattle.columns.proofs.Laws.{small_64, length_column}
-use Rattle.columns.proofs.OneMore.{blanks_more}
 
 -- the w columns at the left, where m is what is left of the number: its column, or spaces once nothing is left
 abbrev pub lead : ℕ → ℕ → List ℕ
@@ -43,7 +42,7 @@ lead_last w m b some small space digit = elim (cases_lt 0 m) [
   | inr h ↦
       let none : m ≡ 0 = omega arith in
       let back : w - 1 + 1 ≡ w = omega arith in
-      cc (lead_none w m none, lead_none (w - 1) (m / 10) (omega arith), blanks_more (w - 1), space none)
+      cc (lead_none w m none, lead_none (w - 1) (m / 10) (omega arith), replicate_more {X = ℕ} (w - 1) 32, space none)
 ]
 
 -- a byte written left of place i takes the last of what is to come before it
@@ -81,6 +80,6 @@ filled_more field i m n b some h so_far e =
 -- the whole field written: nothing stands left of it
 pub filled_all : (field : List ℕ) (w i m n : ℕ) → Fits w n → length field ≡ w → i ≡ 0 → Filled field i m n → field ≡ column w n
 filled_all field w i m n f l z done =
-    let e : lead 0 m ++ field ≡ column w n = ap (λ j. lead j m ++ drop j field) (sym z) ∙ (done ∙ ap (λ k. column k n) l) in
-    let none : length (lead 0 m) ≡ 0 = omega (arith, length-append (lead 0 m) field, ap length e, length_column w n f) in
-    ap (λ (bs : List ℕ). bs ++ field) (sym (nil_from_length (lead 0 m) none)) ∙ e
+    let e : lead 0 m ++ field ≡ column w n = cc in
+    let none = nil_from_length (lead 0 m) (omega (arith, length-append (lead 0 m) field, ap length e, length_column w n f)) in
+    cc

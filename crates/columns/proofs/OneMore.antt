@@ -1,5 +1,5 @@
 -- A field with one byte more at its right: what it holds, from what it held before. Assumes nothing.
-use Rattle.std.proofs.Common.{◌≡◌, ℕ, ◌+◌, ◌-◌, ◌*◌, ◌/◌, ◌%◌, ◌<◌, ◌≤◌, ◌⊎◌, List, [], ◌∷◌, ◌++◌, length, decimal, sym, ap, ◌∙◌, subst, inl, inr, arith, length-append}
+use Rattle.std.proofs.Common.{◌≡◌, ℕ, ◌+◌, ◌-◌, ◌*◌, ◌/◌, ◌%◌, ◌<◌, ◌≤◌, ◌⊎◌, List, [], ◌∷◌, ◌++◌, length, decimal, sym, ap, ◌∙◌, inl, inr, arith, length-append}
 use lib.ListN.{length-replicate}
 use Rattle.std.proofs.lemmas.List.{append_assoc, replicate_more, same_from_push}
 use Rattle.std.proofs.lemmas.Bool.{cases_lt}
@@ -10,29 +10,22 @@ use Rattle.columns.specs.Columns.{blanks, column, Shows, Holds}
 use Rattle.columns.specs.Reading.{Digit, GoesOn, Next}
 use Rattle.columns.proofs.Laws.{small_64, same_shown, shown_not_blank}
 
--- spaces: how many, and one more
-pub length_blanks : (k : ℕ) → length (blanks k) ≡ k
-length_blanks k = length-replicate k 32
-
-pub blanks_more : (k : ℕ) → blanks k ++ (32 ∷ []) ≡ blanks (k + 1)
-blanks_more k = replicate_more k 32
-
 -- as many spaces as there are bytes
 blank_from : (bytes : List ℕ) (k : ℕ) → bytes ≡ blanks k → bytes ≡ blanks (length bytes)
-blank_from bytes k e = e ∙ ap blanks (sym (ap length e ∙ length_blanks k))
+blank_from bytes k e = e ∙ ap blanks (sym (ap length e ∙ length-replicate {A = ℕ} k 32))
 
 -- spaces and then the digits of a number show that number
 pub shows_from : (bytes : List ℕ) (k n : ℕ) → n < 1000000000 → bytes ≡ blanks k ++ decimal n → Shows bytes n
 unfolding column
 shows_from bytes k n h e =
-    let len : length bytes ≡ k + length (decimal n) = omega (arith, ap length e, length-append (blanks k) (decimal n), length_blanks k) in
+    let len : length bytes ≡ k + length (decimal n) = omega (arith, ap length e, length-append (blanks k) (decimal n), length-replicate {A = ℕ} k 32) in
     let room : k ≡ length bytes - length (decimal n) = omega arith in
     record { fits = record { small = h; narrow = omega arith }; written = cc }
 
 -- a blank field with a space more is blank
 pub blank_more : (bytes : List ℕ) (b : ℕ) → bytes ≡ blanks (length bytes) → b ≡ 32 → bytes ++ (b ∷ []) ≡ blanks (length (bytes ++ (b ∷ [])))
 blank_more bytes b e space =
-    let more = blanks_more (length bytes) in
+    let more = replicate_more {X = ℕ} (length bytes) 32 in
     blank_from (bytes ++ (b ∷ [])) (length bytes + 1) (cc)
 
 -- a blank field with a digit more shows that digit
@@ -64,7 +57,7 @@ shows_more bytes b n d s some small digit h =
 pub blank_front : (bytes : List ℕ) (b : ℕ) → bytes ++ (b ∷ []) ≡ blanks (length (bytes ++ (b ∷ []))) → (bytes ≡ blanks (length bytes)) × (b ≡ 32)
 blank_front bytes b e =
     let len = length-append bytes (b ∷ []) in
-    let more = blanks_more (length bytes) in
+    let more = replicate_more {X = ℕ} (length bytes) 32 in
     same_from_push bytes (blanks (length bytes)) b 32 (cc)
 
 -- the front of a field that shows a number: blank before a lone digit, else it shows the number without its last digit
@@ -129,10 +122,10 @@ holds_next bytes b Blank (Number m) h e = shows_first bytes b m h (omega arith) 
 holds_next bytes b Blank Fault h e = fault_first bytes b h e.0 e.1
 holds_next bytes b (Number n) Blank h e = absurd e
 holds_next bytes b (Number n) (Number m) h e =
-    let d : 10 * n + (b - 48) ≡ m = omega arith in
-    subst (λ k. Shows (bytes ++ (b ∷ [])) k) d (shows_more bytes b n (b - 48) h (omega arith) (omega arith) (omega arith) (omega arith))
+    let d : m ≡ 10 * n + (b - 48) = omega arith in
+    rw d (shows_more bytes b n (b - 48) h (omega arith) (omega arith) (omega arith) (omega arith))
 holds_next bytes b (Number n) Fault h e = fault_after bytes b n h e
-holds_next bytes b Fault after h e = subst (λ (t : Content). Holds (bytes ++ (b ∷ [])) t) (sym e) (fault_more bytes b h)
+holds_next bytes b Fault after h e = rw e (fault_more bytes b h)
 
 -- the answer for a field that shows a number is that number
 pub read_back : (bytes : List ℕ) (r : Content) → Holds bytes r → (n : ℕ) → Shows bytes n → r ≡ Number n

@@ -1,8 +1,7 @@
 -- The highest power of ten that a number reaches tells how many digits it has.
-use Rattle.std.proofs.Common.{ℕ, ◌+◌, ◌%◌, ◌/◌, ◌^◌, ◌<◌, ◌≤◌, List, [], ◌∷◌, ◌++◌, length, decimal, ap, arith, length-append, inl, inr}
+use Rattle.std.proofs.Common.{ℕ, ◌+◌, ◌%◌, ◌/◌, ◌^◌, ◌<◌, ◌≤◌, List, [], ◌∷◌, ◌++◌, length, decimal, ap, arith, length-append}
 use Rattle.std.proofs.Math.Nat.{pow-le-pow_right}
 use Rattle.std.proofs.lemmas.Grind.{pow_more}
-use Rattle.std.proofs.lemmas.Bool.{cases_lt}
 use Rattle.std.proofs.lemmas.Fmt.{decimal_nonempty, decimal_by_steps, length-decimal-le}
 use Rattle.columns.proofs.digits.Goals as goal
 
@@ -19,8 +18,7 @@ returns c =
     let count = length (decimal n) in
     let some : 10 ^ 1 ≤ 10 ^ count = pow-le-pow_right {n = 10} (omega arith) (decimal_nonempty n (omega arith)) in
     let most : count ≤ k + 1 = length-decimal-le (k + 1) n (omega arith) (omega (arith, pow_more 10 k)) (omega arith) in
-    let least : k < count = elim (cases_lt k count) [
-      | inl h ↦ h
-      | inr h ↦ let up : 10 ^ count ≤ 10 ^ k = pow-le-pow_right {n = 10} (omega arith) (omega arith) in absurd (omega (arith, below_power n (omega arith)))
-    ] in
+    let up : count ≤ k → 10 ^ count ≤ 10 ^ k = λ h. pow-le-pow_right {n = 10} (omega arith) h in
+    let below = below_power n (omega arith) in
+    let least : k < count = grind (arith, up) in
     omega arith
