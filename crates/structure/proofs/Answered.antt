@@ -1,28 +1,28 @@
 -- The answer of a draw: it leaves no choice, and what it marks drawn is the maximal structure.
-use Rattle.std.proofs.Common.{◌≡◌, ℕ, ◌≤◌, false, List, [], ◌∷◌, Ok, Err, Decides, count_by, Result, sym, refl, ap, ◌∙◌, subst, subst₂, inl, inr, ⊎_elim, arith}
-use Rattle.std.proofs.lemmas.Bool.{cases_Bool, both_ways, false≢true}
+use Rattle.std.proofs.Common.{◌≡◌, ℕ, false, List, [], ◌∷◌, Ok, Err, Decides, count_by, Result, sym, refl, ap, ◌∙◌, subst, subst₂, inl, inr, ⊎_elim, arith}
+use Rattle.std.proofs.lemmas.Bool.{cases_Bool, both_ways, false≢true, true_from_ne_false}
 use Rattle.book.specs.declared.Refusal.{Refusal}
 use Rattle.book.specs.declared.Refusal.TheVariants.{Impossible}
 use Rattle.structure.specs.declared.Mark.{Mark}
 use Rattle.structure.specs.declared.Mark.TheVariants.{Unasked, Idle, Drawn}
-use Rattle.structure.specs.Problem.{Numbers, Member, Within, Problem, Touched, Bounded}
-use Rattle.structure.specs.Structures.{UnitInSome, MaterialInSome, UnionOfAll, Rank}
+use Rattle.structure.specs.Problem.{Numbers, Member, Within, Problem, Bounded}
+use Rattle.structure.specs.Structures.{UnionOfAll, Rank}
 use Rattle.structure.specs.Answers.{Drawing, is_drawn, mark_of, rank_of, drawn, Marked, Shows, Ground, FirstHolds, NoneHolds, draw_grounds, Draws, ImpossibleExactly, DrawnHoldsEvery, DrawnExactlyInSome}
-use Rattle.structure.proofs.Unions.{wanted_in, union_holds_every}
+use Rattle.structure.proofs.Unions.{unit_there, material_there, wanted_in, union_holds_every}
 use Rattle.structure.proofs.Entries.{same_entries}
 
 -- of an ordered list of grounds one refusal at most is given, and none where no ground holds
 one_refusal : (gs : List Ground) (e f : Refusal) → FirstHolds gs e → FirstHolds gs f → f ≡ e
 one_refusal [] e f a b = absurd a
-one_refusal (g ∷ gs) e f a b =
-    ⊎_elim
-    (λ (x : g.holds × (e ≡ g.refusal)). ⊎_elim (λ (y : g.holds × (f ≡ g.refusal)). y.1 ∙ sym x.1) (λ (y : (g.holds → ⊥) × FirstHolds gs f). absurd (y.0 x.0)) b)
-    (λ (x : (g.holds → ⊥) × FirstHolds gs e). ⊎_elim (λ (y : g.holds × (f ≡ g.refusal)). absurd (x.0 y.0)) (λ (y : (g.holds → ⊥) × FirstHolds gs f). one_refusal gs e f x.1 y.1) b)
-    a
+one_refusal (g ∷ gs) e f (inl x) (inl y) = y.1 ∙ sym x.1
+one_refusal (g ∷ gs) e f (inl x) (inr y) = absurd (y.0 x.0)
+one_refusal (g ∷ gs) e f (inr x) (inl y) = absurd (x.0 y.0)
+one_refusal (g ∷ gs) e f (inr x) (inr y) = one_refusal gs e f x.1 y.1
 
 no_refusal : (gs : List Ground) (e : Refusal) → NoneHolds gs → FirstHolds gs e → ⊥
 no_refusal [] e a b = b
-no_refusal (g ∷ gs) e a b = ⊎_elim (λ (y : g.holds × (e ≡ g.refusal)). a.0 y.0) (λ (y : (g.holds → ⊥) × FirstHolds gs e). no_refusal gs e a.1 y.1) b
+no_refusal (g ∷ gs) e a (inl y) = a.0 y.0
+no_refusal (g ∷ gs) e a (inr y) = no_refusal gs e a.1 y.1
 
 -- what a mark stands for excludes what any other stands for, and a mark is drawn exactly where some solution-structure
 -- has what it marks
@@ -43,15 +43,6 @@ module _ (there in_some : Type 0) (some-there : in_some → there) where
   drawn_exactly Idle x = (λ e. absurd (false≢true e), λ w. absurd (x.1 w))
   drawn_exactly Drawn x = (λ _. x, λ _. refl)
 
-unit_there : (p : Problem) (u : ℕ) → UnitInSome p u → Member p.standing u
-unit_there p u (m, o, s, i) = s.units_stand u i
-
-pub touched_known : (p : Problem) → Bounded p → (o : Numbers) (x : ℕ) → Touched p o x → (1 ≤ x) × (x ≤ p.materials)
-touched_known p b o x (u, i, t) = ⊎_elim (b.inputs_known u x) (b.outputs_known u x) t
-
-material_there : (p : Problem) → Bounded p → (x : ℕ) → MaterialInSome p x → (1 ≤ x) × (x ≤ p.materials)
-material_there p b x (m, o, s, i) = touched_known p b o x (s.materials_used x i)
-
 -- a unit has one rank
 one_rank : (p : Problem) (m o : Numbers) (u j k : ℕ) → Rank p m o u j → Rank p m o u k → k ≡ j
 one_rank p m o u j k a b = let x = a.least k b.reached in let y = b.least j a.reached in omega arith
@@ -68,12 +59,11 @@ module _ (p : Problem) (bounded : Bounded p) (c d : Drawing) (a : Shows p c) (b 
 
   same_rank : (u : ℕ) → rank_of d.ranks u ≡ rank_of c.ranks u
   same_rank u =
+      let ranked = subst₂ (λ (ms os : List Mark). Member (drawn os) u → Rank p (drawn ms) (drawn os) u (rank_of d.ranks u)) same_material_marks same_unit_marks (b.ranked u) in
+      let unranked = subst (λ (os : List Mark). (Member (drawn os) u → ⊥) → rank_of d.ranks u ≡ 0) same_unit_marks (b.unranked u) in
       ⊎_elim
-      (λ (i : Member (drawn c.unit_marks) u).
-      one_rank p (drawn c.material_marks) (drawn c.unit_marks) u _ _ (a.ranked u i)
-      (subst₂ (λ (ms os : List Mark). Rank p (drawn ms) (drawn os) u (rank_of d.ranks u)) same_material_marks same_unit_marks (b.ranked u (subst (λ (os : List Mark). Member (drawn os) u) (sym same_unit_marks) i))))
-      (λ (i : drawn c.unit_marks u ≡ false).
-      b.unranked u (λ j. both_ways (drawn c.unit_marks u) i (subst (λ (os : List Mark). Member (drawn os) u) same_unit_marks j)) ∙ sym (a.unranked u (both_ways (drawn c.unit_marks u) i)))
+      (λ (i : Member (drawn c.unit_marks) u). one_rank p (drawn c.material_marks) (drawn c.unit_marks) u _ _ (a.ranked u i) (ranked i))
+      (λ (i : drawn c.unit_marks u ≡ false). let out = both_ways (drawn c.unit_marks u) i in unranked out ∙ sym (a.unranked u out))
       (cases_Bool (drawn c.unit_marks u))
 
   one_drawing : d ≡ c
@@ -111,13 +101,11 @@ holds_every p bounded (Ok d) (none, shown) = union_holds_every p m _ all wanted
     all = exactly_in_some p bounded (Ok d) (none, shown)
 
     wanted : Within p.wanted (drawn d.material_marks)
-    wanted x w =
-        ⊎_elim (λ e. e) (λ (e : drawn d.material_marks x ≡ false). absurd (none.1.1.1.0 (λ some. both_ways (drawn d.material_marks x) e (wanted_in p _ _ all some x w))))
-        (cases_Bool (drawn d.material_marks x))
+    wanted x w = true_from_ne_false (m x) (λ e. none.1.1.1.0 (λ some. both_ways (m x) e (wanted_in p _ _ all some x w)))
 
 -- refused as impossible exactly where there is no solution-structure, if no earlier ground holds
 pub impossible_exactly : (p : Problem) (r : Result Drawing Refusal) → Draws p r → ImpossibleExactly p r
-impossible_exactly p (Ok d) (none, shown) w b apart = (λ e. absurd (let z : ◌≡◌ {A = ℕ} 0 1 = cc in omega arith), λ no-solution. absurd (none.1.1.1.0 no-solution))
+impossible_exactly p (Ok d) (none, shown) w b apart = (λ e. absurd (cc), λ no-solution. absurd (none.1.1.1.0 no-solution))
 impossible_exactly p (Err e) first w b apart =
     let only = one_refusal (draw_grounds p) in (
       λ i. ⊎_elim (λ x. absurd (x.0 w)) (λ x. ⊎_elim (λ y. absurd (y.0 b)) (λ y. ⊎_elim (λ z. absurd (apart z.0.0 z.0.1 z.0.2)) (λ z. ⊎_elim (λ t. t.0) (λ t. absurd t.1) z.1) y.1) x.1) first,

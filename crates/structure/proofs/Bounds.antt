@@ -1,6 +1,6 @@
 -- The problem that a well-formed book sets is bounded by the book's counts.
-use Rattle.std.proofs.Common.{◌≡◌, ℕ, ◌-◌, ◌<◌, ◌≤◌, Bool, true, false, cond, List, Some, None, unwrap_or, subst, ⊎_elim, arith}
-use Rattle.std.proofs.lemmas.Bool.{cases_Bool, false≢true}
+use Rattle.std.proofs.Common.{◌≡◌, ℕ, ◌-◌, ◌≤◌, Bool, true, false, List, Some, None, unwrap_or, arith}
+use Rattle.std.proofs.lemmas.Bool.{cond_both, false≢true}
 use Rattle.std.proofs.ByRecursion.{All-get_or}
 use Rattle.book.specs.Meaning.{Fitted, UnitState, free, standing, withheld, Meaning, material_count, unit_count, Listed, FittedWithin, StateWithin, WellFormed}
 use Rattle.book.specs.Declined.{inside, state_at, is_standing}
@@ -11,24 +11,18 @@ use Rattle.structure.proofs.Searches.{is_inside, all_named}
 
 -- an answer that is there is of a number in range
 answered : (k count : ℕ) (x : Bool) → unwrap_or (where_inside k count x) false ≡ true → (1 ≤ k) × (k ≤ count)
-answered k count x e =
-    ⊎_elim
-    (λ (i : inside k count ≡ true). (is_inside k count).0 i)
-    (λ (i : inside k count ≡ false). absurd (false≢true (subst (λ b. unwrap_or (cond b (Some x) None) false ≡ true) i e)))
-    (cases_Bool (inside k count))
+answered k count x =
+    cond_both (inside k count) (Some x) None (λ t. unwrap_or t false ≡ true → (1 ≤ k) × (k ≤ count)) (λ i _. (is_inside k count).0 i) (λ _ e. absurd (false≢true e))
 
 -- what a standing unit's list names is a material of the book
 listed_known : (m : Meaning) → WellFormed m → (side : Fitted → List ℕ) → ((f : Fitted) → FittedWithin (material_count m) f → Listed (material_count m) (side f)) →
     (u x : ℕ) → names x (list_of side (fitted_at u m)) ≡ true → (1 ≤ x) × (x ≤ material_count m)
-listed_known m well side known u x e =
-    ⊎_elim
-    (λ (i : inside u (unit_count m) ≡ true).
+listed_known m well side known u x =
+    cond_both (inside u (unit_count m)) (told_of (state_at m u)) None (λ t. names x (list_of side t) ≡ true → (1 ≤ x) × (x ≤ material_count m))
+    (λ i.
     let (low, high) = (is_inside u (unit_count m)).0 i in
-    let within : u - 1 < unit_count m = omega arith in
-    of_state (state_at m u) (All-get_or (StateWithin (material_count m)) m.units (u - 1) free within well.lists)
-    (subst (λ b. names x (list_of side (cond b (told_of (state_at m u)) None)) ≡ true) i e))
-    (λ (i : inside u (unit_count m) ≡ false). absurd (false≢true (subst (λ b. names x (list_of side (cond b (told_of (state_at m u)) None)) ≡ true) i e)))
-    (cases_Bool (inside u (unit_count m)))
+    of_state (state_at m u) (All-get_or (StateWithin (material_count m)) m.units (u - 1) free (omega arith) well.lists))
+    (λ _ e. absurd (false≢true e))
   where
     of_state : (s : UnitState) → StateWithin (material_count m) s → names x (list_of side (told_of s)) ≡ true → (1 ≤ x) × (x ≤ material_count m)
     of_state free k n = absurd (false≢true n)

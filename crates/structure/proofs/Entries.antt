@@ -1,5 +1,5 @@
 -- What a list has for each number from 1 on: the value at the place before it, and another for every number that it has none for.
-use Rattle.std.proofs.Common.{◌≡◌, ℕ, ◌+◌, ◌-◌, ◌<◌, ◌≤◌, cond, List, length, get_or, Some, None, unwrap_or, sym, refl, ap, ◌∙◌, arith}
+use Rattle.std.proofs.Common.{◌≡◌, ℕ, ◌+◌, ◌-◌, ◌<◌, ◌≤◌, cond, List, length, get_or, Some, None, unwrap_or, refl, ap, arith}
 use Rattle.std.proofs.lemmas.List.{same_lists, get_or_default}
 use Rattle.std.proofs.lemmas.Bool.{cond_both}
 use Rattle.book.specs.Declined.{inside}
@@ -22,6 +22,6 @@ pub same_entries : {X : Type 0} (fresh : X) (xs ys : List X) → length xs ≡ l
 same_entries fresh xs ys long same = same_lists xs ys long (λ k d h.
     let g : k < length ys = omega arith in
     let back : k + 1 - 1 ≡ k = omega arith in
-    let x : entry fresh xs (k + 1) ≡ get_or xs k fresh = entry_at fresh xs (k + 1) (omega arith) (omega arith) ∙ ap (λ (i : ℕ). get_or xs i fresh) back in
-    let y : entry fresh ys (k + 1) ≡ get_or ys k fresh = entry_at fresh ys (k + 1) (omega arith) (omega arith) ∙ ap (λ (i : ℕ). get_or ys i fresh) back in
-    get_or_default xs k d fresh h ∙ (sym x ∙ (same (k + 1) ∙ (y ∙ get_or_default ys k fresh d g))))
+    let x = entry_at fresh xs (k + 1) (omega arith) (omega arith) in
+    let y = entry_at fresh ys (k + 1) (omega arith) (omega arith) in
+    cc (get_or_default xs k d fresh h, same (k + 1), get_or_default ys k fresh d g))

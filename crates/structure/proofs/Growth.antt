@@ -15,11 +15,7 @@ count s (suc n) = one (s n) + count s n
 -- at most n are
 count_small : (s : Numbers) (n : ℕ) → count s n ≤ n
 count_small s zero = omega arith
-count_small s (suc n) = omega (arith, one_small (s n), count_small s n)
-  where
-    one_small : (b : Bool) → one b ≤ 1
-    one_small true = omega arith
-    one_small false = omega arith
+count_small s (suc n) = grind (arith, count_small s n)
 
 -- of two sets of which the first lies in the second, the second has as many numbers below n, and no others, or more
 abbrev SameOrMore : Numbers → Numbers → ℕ → Type 0

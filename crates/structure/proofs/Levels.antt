@@ -1,7 +1,7 @@
 -- The units of a set that lead to something wanted, computed level by level: those that make something wanted, those that make
 -- what these take, and so on.
-use Rattle.std.proofs.Common.{◌≡◌, ℕ, zero, suc, ◌<◌, ◌≤◌, true, false, cond, ◌&&◌, ◌||◌, leb, ◌⊎◌, List, get_or, Decides, sym, ◌∙◌, subst, inl, inr, ⊎_elim, arith}
-use Rattle.std.proofs.lemmas.Bool.{cases_Bool, cases_lt, cond-true, cond-false, leb-true, leb-false, le-leb}
+use Rattle.std.proofs.Common.{◌≡◌, ℕ, zero, suc, ◌<◌, ◌≤◌, cond, ◌&&◌, ◌||◌, leb, ◌⊎◌, List, get_or, Decides, sym, refl, subst, inl, inr, ⊎_elim, arith}
+use Rattle.std.proofs.lemmas.Bool.{cond_both, leb-true, leb-false, le-leb}
 use Rattle.std.proofs.lemmas.Bool.Decides.{Decides-and, Decides-or, not_from_Decides}
 use Rattle.structure.specs.Problem.{Numbers, Member, Within, Problem, Takes, Makes}
 use Rattle.structure.specs.Structures.{Node, Path}
@@ -61,8 +61,7 @@ next_wider p g s t h u (i, (x, m, near)) = (i, (x, m, ⊎_elim inl (λ w. inr (w
 
 -- a number that a table gives a rank is one of the table's
 ranked_small : (f : ℕ → ℕ) (n u : ℕ) → Member (ranked (table f n)) u → u ≤ n
-ranked_small f n u i =
-    ⊎_elim (λ (past : n < u). absurd (omega (arith, past_table f n u 0 past, leb-true 1 (get_or (table f n) u 0) i))) (λ within. within) (cases_lt n u)
+ranked_small f n u i = grind (arith, past_table f n u 0, leb-true 1 (get_or (table f n) u 0) i)
 
 module _ (p : Problem) (g : Numbers) (known : (u : ℕ) → Member g u → u ≤ p.units) where
   -- the test decides that
@@ -80,17 +79,11 @@ module _ (p : Problem) (g : Numbers) (known : (u : ℕ) → Member g u → u ≤
   -- the ranks of a level, from those of the level before
   deeper_cases : (k u : ℕ) → Deeper p g k u (deeper p g (suc k) (levels p g k) u)
   deeper_cases k u =
-      let rest = cond (next p g (has p g k) u) (suc k) 0 in
-      ⊎_elim
-      (λ (e : has p g k u ≡ true). kept (leb-true 1 (rank p g k u) e) (cond-true (has p g k u) (rank p g k u) rest e))
-      (λ (e : has p g k u ≡ false). of_next (omega (arith, leb-false 1 (rank p g k u) e)) (cond-false (has p g k u) (rank p g k u) rest e))
-      (cases_Bool (has p g k u))
-    where
-      of_next : {rank' : ℕ} → rank p g k u ≡ 0 → rank' ≡ cond (next p g (has p g k) u) (suc k) 0 → Deeper p g k u rank'
-      of_next out e =
-          let t = next p g (has p g k) u in
-          let d = is_next (has p g k) (has_small k) u in
-          ⊎_elim (λ i. risen out (d.0 i) (e ∙ cond-true t (suc k) 0 i)) (λ i. still_none out (not_from_Decides t d i) (e ∙ cond-false t (suc k) 0 i)) (cases_Bool t)
+      let t = next p g (has p g k) u in
+      let d = is_next (has p g k) (has_small k) u in
+      cond_both (has p g k u) (rank p g k u) (cond t (suc k) 0) (Deeper p g k u) (λ e. kept (leb-true 1 (rank p g k u) e) refl) (λ e.
+      let out : rank p g k u ≡ 0 = omega (arith, leb-false 1 (rank p g k u) e) in
+      cond_both t (suc k) 0 (Deeper p g k u) (λ i. risen out (d.0 i) refl) (λ i. still_none out (not_from_Decides t d i) refl))
 
   pub level : (k u : ℕ) → Deeper p g k u (rank p g (suc k) u)
   level k u = subst (Deeper p g k u) (sym (at_table (deeper p g (suc k) (levels p g k)) p.units u 0 (none (deeper_cases k u)))) (deeper_cases k u)

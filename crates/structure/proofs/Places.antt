@@ -1,9 +1,9 @@
 -- The lists of a sheet: a few first entries, and the others as on a new sheet.
-use Rattle.std.proofs.Common.{◌≡◌, ℕ, zero, suc, ◌-◌, ◌<◌, ◌≤◌, cond, List, map, length, get_or, replicate, count_by, sym, refl, ◌∙◌, ⊎_elim, arith}
+use Rattle.std.proofs.Common.{◌≡◌, ℕ, ◌-◌, ◌≤◌, cond, List, map, length, get_or, replicate, count_by, sym, refl, ◌∙◌, ⊎_elim, arith}
 use Rattle.std.specs.List.{range_with_len}
-use Rattle.std.proofs.lemmas.Bool.{cases_lt}
 use Rattle.std.proofs.lemmas.List.{length-append, length-replicate, get_or-replicate, get_or_past, get_or_append_left, get_or-append_right}
 use Rattle.std.proofs.lemmas.List.FromFn.{get_or-map-range_with_len, length-map-range_with_len}
+use Rattle.std.proofs.lemmas.List.Folds.{sum_by-replicate}
 use Rattle.std.proofs.lemmas.List.Sums.{sum_by-append}
 use Rattle.book.specs.Declined.{inside}
 use Rattle.structure.specs.declared.Mark.{Mark}
@@ -25,10 +25,9 @@ length_first_of fresh xs few = length-append xs (replicate (1024 - length xs) fr
 past_first_of : {X : Type 0} (fresh : X) (xs : List X) (i : ℕ) → length xs ≤ i → get_or (first_of fresh xs) i fresh ≡ fresh
 past_first_of fresh xs i past =
     let count = 1024 - length xs in
+    let k = i - length xs in
     get_or-append_right xs (replicate count fresh) (length xs) i fresh refl past
-    ∙ ⊎_elim (λ (h : i - length xs < count). get_or-replicate count (i - length xs) fresh fresh h)
-    (λ (h : count ≤ i - length xs). get_or_past (replicate count fresh) (i - length xs) fresh (omega (arith, length-replicate count fresh)))
-    (cases_lt (i - length xs) count)
+    ∙ grind (arith, get_or-replicate count k fresh fresh, get_or_past (replicate count fresh) k fresh, length-replicate count fresh)
 
 -- a sheet's list that begins with the values of f for 1 to n
 module _ {X : Type 0} (fresh : X) (f : ℕ → X) (n : ℕ) (few : n ≤ 1024) where
@@ -51,7 +50,7 @@ module _ {X : Type 0} (fresh : X) (f : ℕ → X) (n : ℕ) (few : n ≤ 1024) w
   entry_outside k out =
       ⊎_elim
       (λ within. entry_at fresh places k within.0 within.1 ∙ past_first_of fresh (listed f n) (k - 1)
-      (⊎_elim (λ (past : n < k). omega (arith, length_listed)) (λ (high : k ≤ n). absurd (out (within.0, high))) (cases_lt n k)))
+      (grind (arith, length_listed, within.0, out)))
       (entry_none fresh places k)
       (decided (inside k (length places)) (is_inside k (length places)))
 
@@ -59,13 +58,9 @@ module _ {X : Type 0} (fresh : X) (f : ℕ → X) (n : ℕ) (few : n ≤ 1024) w
   pub entry_listed : ((k : ℕ) → ((1 ≤ k) × (k ≤ n) → ⊥) → f k ≡ fresh) → (k : ℕ) → entry fresh (first_of fresh (listed f n)) k ≡ f k
   entry_listed outside k = ⊎_elim (λ within. entry_inside k within.0 within.1) (λ out. entry_outside k out ∙ sym (outside k out)) (decided (inside k n) (is_inside k n))
 
--- a new sheet has nothing drawn
-none_drawn : (k : ℕ) → count_by is_drawn (replicate k Unasked) ≡ 0
-none_drawn zero = refl
-none_drawn (suc k) = none_drawn k
-
--- so what is drawn stands among the first marks
+-- what is drawn stands among the first marks, for a new sheet has nothing drawn
 pub drawn_first_of : (marks : List Mark) → count_by is_drawn marks ≡ count_by is_drawn (first_of Unasked marks)
 drawn_first_of marks =
-    let rest = replicate (1024 - length marks) Unasked in
-    omega (arith, sum_by-append (λ x. cond (is_drawn x) 1 0) marks rest, none_drawn (1024 - length marks))
+    let one : Mark → ℕ = λ x. cond (is_drawn x) 1 0 in
+    let k = 1024 - length marks in
+    omega (arith, sum_by-append one marks (replicate k Unasked), sum_by-replicate one k Unasked)

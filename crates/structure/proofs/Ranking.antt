@@ -1,6 +1,6 @@
 -- The ranks among the units of a set: a unit's level is its rank.
-use Rattle.std.proofs.Common.{◌≡◌, ℕ, zero, suc, ◌<◌, ◌≤◌, get_or, sym, refl, subst, inl, inr, ⊎_elim, arith}
-use Rattle.std.proofs.lemmas.Bool.{cases_lt, leb-true, le-leb}
+use Rattle.std.proofs.Common.{◌≡◌, ℕ, zero, suc, ◌<◌, ◌≤◌, get_or, sym, refl, subst, inl, inr, arith}
+use Rattle.std.proofs.lemmas.Bool.{leb-true, le-leb}
 use Rattle.structure.specs.Problem.{Numbers, Member, Problem}
 use Rattle.structure.specs.Structures.{Path, Rank}
 use Rattle.structure.specs.Structures.Node.{unit}
@@ -41,7 +41,7 @@ module _ (p : Problem) (g : Numbers) (known : (u : ℕ) → Member g u → u ≤
 
     -- a unit that has no rank yet has no path of k units or fewer
     too_far : (u j : ℕ) → rank p g k u ≡ 0 → Path p any g (unit u) j → k < j
-    too_far u j none q = ⊎_elim (λ far. far) (λ (l : j ≤ k). absurd (omega (arith, (up.far u j q l).0))) (cases_lt k j)
+    too_far u j none q = grind (arith, up.far u j q)
 
     near_more : (u : ℕ) → 1 ≤ rank p g (suc k) u → (rank p g (suc k) u ≤ suc k) × Path p any g (unit u) (rank p g (suc k) u)
     near_more u h =
@@ -54,7 +54,7 @@ module _ (p : Problem) (g : Numbers) (known : (u : ℕ) → Member g u → u ≤
     far_more : (u j : ℕ) → Path p any g (unit u) j → j ≤ suc k → (1 ≤ rank p g (suc k) u) × (rank p g (suc k) u ≤ j)
     far_more u j q h =
         elim (level p g known k u) [
-          | kept old same ↦ (omega arith, ⊎_elim (λ (far : k < j). omega (arith, (up.near u old).0)) (λ (l : j ≤ k). omega (arith, (up.far u j q l).1)) (cases_lt k j))
+          | kept old same ↦ (omega arith, grind (arith, (up.near u old).0, up.far u j q))
           | risen out n new ↦ (omega arith, omega (arith, too_far u j out q))
           | still_none out n none ↦ absurd (n (path_next u j q h))
         ]
@@ -76,7 +76,7 @@ module _ (p : Problem) (g : Numbers) (known : (u : ℕ) → Member g u → u ≤
       let (low, q) = (upto n).near u (leb-true 1 (rank p g n u) i) in
       record {
         reached = q;
-        least = λ j r. ⊎_elim (λ (far : n < j). omega arith) (λ (l : j ≤ n). ((upto n).far u j r l).1) (cases_lt n j);
+        least = λ j r. grind (arith, (upto n).far u j r);
       }
 
   -- so every unit that leads to something wanted has a rank

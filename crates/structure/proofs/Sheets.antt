@@ -1,7 +1,7 @@
 -- A sheet whose marks and ranks are those of the maximal structure shows it.
-use Rattle.std.proofs.Common.{◌≡◌, ℕ, ◌≤◌, Bool, true, false, length, Decides, count_by, sym, refl, ap, ◌∙◌, subst, subst₂, ⊎_elim}
+use Rattle.std.proofs.Common.{◌≡◌, ℕ, ◌≤◌, Bool, true, false, length, Decides, count_by, sym, refl, ap, ◌∙◌, subst, subst₂}
 use mathlib.Core.Path.{fun_ext}
-use Rattle.std.proofs.lemmas.Bool.{false≢true}
+use Rattle.std.proofs.lemmas.Bool.{false≢true, false_from_ne_true}
 use Rattle.book.specs.Declined.{inside}
 use Rattle.structure.specs.declared.Mark.{Mark}
 use Rattle.structure.specs.declared.Mark.TheVariants.{Unasked}
@@ -9,6 +9,7 @@ use Rattle.structure.specs.Problem.{Numbers, Member, Problem, Bounded}
 use Rattle.structure.specs.Structures.{UnionOfAll, Rank}
 use Rattle.structure.specs.Answers.{Drawing, is_drawn, mark_of, rank_of, drawn, Marked, mark_for, UnitMarked, MaterialMarked, Shows}
 use Rattle.structure.specs.Farms.{first_of}
+use Rattle.structure.proofs.Unions.{unit_there, material_there}
 use Rattle.structure.proofs.Searches.{itself, is_inside}
 use Rattle.structure.proofs.Places.{listed, length_places, entry_listed, drawn_first_of}
 
@@ -75,20 +76,15 @@ sheet p m o r = record {
 
 -- a mark is unasked where nothing is drawn and nothing there
 unasked_for : (some there : Bool) → (some ≡ true → ⊥) → (there ≡ true → ⊥) → mark_for some there ≡ Unasked
-unasked_for true there a b = absurd (a refl)
-unasked_for false true a b = absurd (b refl)
-unasked_for false false a b = refl
+unasked_for some there a b = rw (false_from_ne_true some a, false_from_ne_true there b)
 
 module _ (p : Problem) (bounded : Bounded p) (m o : Numbers) (all : UnionOfAll p m o) where
   -- the units of the maximal structure are among 1 to n, and its materials among 1 to l
   pub unit_known : (u : ℕ) → Member o u → (1 ≤ u) × (u ≤ p.units)
-  unit_known u i = let (m', o', s, j) = (all.units u).0 i in bounded.units_known u (s.units_stand u j)
+  unit_known u i = bounded.units_known u (unit_there p u ((all.units u).0 i))
 
   pub material_known : (x : ℕ) → Member m x → (1 ≤ x) × (x ≤ p.materials)
-  material_known x i =
-      let (m', o', s, j) = (all.materials x).0 i in
-      let (u, k, t) = s.materials_used x j in
-      ⊎_elim (bounded.inputs_known u x) (bounded.outputs_known u x) t
+  material_known x i = material_there p bounded x ((all.materials x).0 i)
 
   -- a number that the book does not have is unasked
   pub unit_unasked : (u : ℕ) → ((1 ≤ u) × (u ≤ p.units) → ⊥) → mark_for (o u) (p.standing u) ≡ Unasked

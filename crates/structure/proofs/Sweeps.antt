@@ -1,6 +1,6 @@
 -- The largest supported set, computed: the standing units are swept until no sweep takes any away.
 use Rattle.std.proofs.Common.{◌≡◌, ℕ, zero, suc, Bool, false, not, ◌&&◌, ◌||◌, ◌⊎◌, List, Decides, sym, ◌∙◌, inl, inr, ⊎_elim, arith}
-use Rattle.std.proofs.lemmas.Bool.{cases_Bool}
+use Rattle.std.proofs.lemmas.Bool.{false_from_ne_true}
 use Rattle.std.proofs.lemmas.Bool.Decides.{Decides-and, Decides-or, Decides-not, Decides-at}
 use Rattle.structure.specs.Problem.{Numbers, Member, Within, Problem, Takes, Makes, MadeIn, Bounded}
 use Rattle.structure.specs.Supported.{Supported, Largest}
@@ -41,7 +41,7 @@ module _ (p : Problem) (bounded : Bounded p) where
 
   -- a table of standing units has them all
   at_standing : (s : Numbers) → Within s p.standing → (u : ℕ) → flagged (table s p.units) u ≡ s u
-  at_standing s stand u = at_table s p.units u false (λ past. ⊎_elim (λ i. absurd (omega (arith, standing_known p bounded s stand u i))) (λ e. e) (cases_Bool (s u)))
+  at_standing s stand u = at_table s p.units u false (λ past. false_from_ne_true (s u) (λ i. omega (arith, standing_known p bounded s stand u i)))
 
   -- what one sweep more leaves of standing units
   is_next_of : (k : ℕ) → Within (flagged (sweeps p k)) p.standing → (u : ℕ) → Decides (flagged (sweeps p (suc k)) u) (Kept p (flagged (sweeps p k)) u)

@@ -1,7 +1,6 @@
 -- Tables, by which each value of a function is computed once.
-use Rattle.std.proofs.Common.{◌≡◌, ℕ, suc, ◌<◌, ◌≤◌, Bool, false, List, map, get_or, sym, ◌∙◌, ⊎_elim, arith}
+use Rattle.std.proofs.Common.{◌≡◌, ℕ, suc, ◌<◌, Bool, false, List, map, get_or, arith}
 use Rattle.std.specs.List.{range_with_len}
-use Rattle.std.proofs.lemmas.Bool.{cases_lt}
 use Rattle.std.proofs.lemmas.List.{get_or_past}
 use Rattle.std.proofs.lemmas.List.FromFn.{get_or-map-range_with_len, length-map-range_with_len}
 use Rattle.structure.specs.Problem.{Numbers}
@@ -20,8 +19,4 @@ past_table f n u d past = get_or_past (table f n) u d (omega (arith, length-map-
 
 -- a function that has that value past n is read off its table
 pub at_table : {X : Type 0} (f : ℕ → X) (n u : ℕ) (d : X) → (n < u → f u ≡ d) → get_or (table f n) u d ≡ f u
-at_table f n u d past =
-    ⊎_elim
-    (λ (h : u < suc n). get_or-map-range_with_len f 0 (suc n) u u d h (omega arith))
-    (λ (h : suc n ≤ u). past_table f n u d (omega arith) ∙ sym (past (omega arith)))
-    (cases_lt u (suc n))
+at_table f n u d past = grind (arith, get_or-map-range_with_len f 0 (suc n) u u d, past_table f n u d, past)

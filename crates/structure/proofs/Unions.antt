@@ -1,10 +1,17 @@
 -- The union of all solution-structures is the one that holds every other.
-use Rattle.std.proofs.Common.{◌≡◌, ℕ, inr}
+use Rattle.std.proofs.Common.{◌≡◌, ℕ, ◌≤◌, inr, ⊎_elim}
 use mathlib.Core.Path.{fun_ext}
 use Rattle.std.proofs.lemmas.Bool.Decides.{same_from_decides}
-use Rattle.structure.specs.Problem.{Numbers, Member, Within, Problem, MadeIn, Touched}
-use Rattle.structure.specs.Structures.{Node, Path, SolutionStructure, HasSolution, UnionOfAll, HoldsEvery}
+use Rattle.structure.specs.Problem.{Numbers, Member, Within, Problem, MadeIn, Touched, Bounded}
+use Rattle.structure.specs.Structures.{Node, Path, SolutionStructure, HasSolution, UnitInSome, MaterialInSome, UnionOfAll, HoldsEvery}
 use Rattle.structure.specs.Structures.Path.{arrived, taken, made}
+
+-- a unit that some solution-structure has stands, and a material that some has is one of the book's
+pub unit_there : (p : Problem) (u : ℕ) → UnitInSome p u → Member p.standing u
+unit_there p u (m, o, s, i) = s.units_stand u i
+
+pub material_there : (p : Problem) → Bounded p → (x : ℕ) → MaterialInSome p x → (1 ≤ x) × (x ≤ p.materials)
+material_there p bounded x (m, o, s, i) = let (u, j, t) = s.materials_used x i in ⊎_elim (bounded.inputs_known u x) (bounded.outputs_known u x) t
 
 -- a path through fewer materials and units is one through more
 pub wider : (p : Problem) (m o m' o' : Numbers) → Within m m' → Within o o' → (a : Node) (k : ℕ) → Path p m o a k → Path p m' o' a k

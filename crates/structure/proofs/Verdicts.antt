@@ -1,6 +1,6 @@
 -- What a draw answers is computed: for every bounded problem that a sheet has room for there is an answer that keeps to the rules.
-use Rattle.std.proofs.Common.{◌≡◌, ℕ, suc, ◌<◌, ◌≤◌, Bool, true, cond, ◌&&◌, get_or, Ok, Err, Decides, Result, refl, inl, inr, ⊎_elim, arith}
-use Rattle.std.proofs.lemmas.Bool.{cond_both, cases_lt, le-leb}
+use Rattle.std.proofs.Common.{◌≡◌, ℕ, suc, ◌≤◌, Bool, true, cond, ◌&&◌, leb, get_or, Ok, Err, Decides, Result, refl, inl, inr, arith}
+use Rattle.std.proofs.lemmas.Bool.{cond_both, leb-false, false_from_ne_true}
 use Rattle.std.proofs.lemmas.Bool.Decides.{Decides-and, Decides-like, not_from_Decides}
 use Rattle.book.specs.declared.Refusal.{Refusal}
 use Rattle.book.specs.declared.Refusal.TheVariants.{NothingWanted, NothingBought, WantedAndBought, Impossible}
@@ -60,9 +60,7 @@ module _ (p : Problem) (bounded : Bounded p) where
         sheet_shows p bounded (maximal_materials p) (maximal_units p) all few_units few_materials (λ u. get_or (ranks p (swept p)) u 0) (maximal_ranks p bounded e) unranked
       where
         unranked : (u : ℕ) → (Member (maximal_units p) u → ⊥) → get_or (ranks p (swept p)) u 0 ≡ 0
-        unranked u out =
-            let r = get_or (ranks p (swept p)) u 0 in
-            ⊎_elim (λ (h : 0 < r). absurd (out (le-leb 1 r h))) (λ (h : r ≤ 0). omega arith) (cases_lt 0 r)
+        unranked u out = let r = get_or (ranks p (swept p)) u 0 in omega (arith, leb-false 1 r (false_from_ne_true (leb 1 r) out))
 
     -- the answer keeps to the rules, from the last ground to the first
     apart_draws : SomeWanted p → SomeBought p → (SomeBoth p → ⊥) → Draws p (where_apart p)
