@@ -13,7 +13,7 @@ pub(crate) fn lists_rise<B: Book>(book: &mut B, units: u16) -> bool
     ensures answer { result ≡ all_rise (B.Book.meaning book.old).units }
     ensures same { book.new ≡ book.old }
 {
-    // A range: the numbers are asked of the book, there is no slice to walk.
+    // A loop: a closure that holds the book would not say that it is as before.
     for unit in 1..=units {
         if !unit_rises(book, unit) {
             return false;
@@ -36,7 +36,7 @@ fn list_rises<B: Book>(book: &mut B, unit: u16, side: Side) -> bool
     ensures same { book.new ≡ book.old }
 {
     let mut last = 0;
-    // A range: the entries are asked of the book, there is no slice to walk.
+    // A loop: a closure that holds the book would not say that it is as before.
     for place in 1..=LIST_FIELDS as u16 {
         if let Some(number) = book.entry(unit, side, place) {
             if number <= last {
