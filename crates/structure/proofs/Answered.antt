@@ -106,8 +106,7 @@ holds_every p bounded (Ok d) (none, shown) = union_holds_every p m _ all wanted
 -- refused as impossible exactly where there is no solution-structure, if no earlier ground holds
 pub impossible_exactly : (p : Problem) (r : Result Drawing Refusal) → Draws p r → ImpossibleExactly p r
 impossible_exactly p (Ok d) (none, shown) w b apart = (λ e. absurd (cc), λ no-solution. absurd (none.1.1.1.0 no-solution))
-impossible_exactly p (Err e) first w b apart =
-    let only = one_refusal (draw_grounds p) in (
-      λ i. ⊎_elim (λ x. absurd (x.0 w)) (λ x. ⊎_elim (λ y. absurd (y.0 b)) (λ y. ⊎_elim (λ z. absurd (apart z.0.0 z.0.1 z.0.2)) (λ z. ⊎_elim (λ t. t.0) (λ t. absurd t.1) z.1) y.1) x.1) first,
-      λ no-solution. ap Err (only Impossible e (inr (λ x. x w, inr (λ x. x b, inr (λ x. apart x.0 x.1 x.2, inl (no-solution, refl))))) first),
-    )
+impossible_exactly p (Err e) first w b apart = (
+  λ i. ⊎_elim (λ x. absurd (x.0 w)) (λ x. ⊎_elim (λ y. absurd (y.0 b)) (λ y. ⊎_elim (λ z. absurd (apart z.0.0 z.0.1 z.0.2)) (λ z. ⊎_elim (λ t. t.0) (λ t. absurd t.1) z.1) y.1) x.1) first,
+  λ no-solution. ap Err (one_refusal (draw_grounds p) Impossible e (inr (λ x. x w, inr (λ x. x b, inr (λ x. apart x.0 x.1 x.2, inl (no-solution, refl))))) first),
+)

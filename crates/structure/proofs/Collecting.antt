@@ -23,9 +23,6 @@ module _ (p : Problem) (g o m : Numbers) (all_made : AllMade p g) (collected : C
   inside a k (taken i j t q) = let e = (collected _).1 (_, q) in taken ((spanned _).1 (_, e, inl t)) e t (inside _ _ q)
   inside a k (made i j t q) = let e = (collected _).1 (_, made i j t q) in made e ((spanned _).1 (_, e, inr t)) t (inside _ _ q)
 
-  outside : (a : Node) (k : ℕ) → Path p m o a k → Path p any g a k
-  outside = wider p m o any g (λ _ _. refl) collected_in
-
   module _ (supported : Supported p g) where
     -- what a unit of o takes is bought or made in o
     fed_inside : (u x : ℕ) → Member o u → Takes p u x → (MadeIn p o x → ⊥) → Member p.bought x
@@ -51,7 +48,7 @@ module _ (p : Problem) (g o m : Numbers) (all_made : AllMade p g) (collected : C
   pub rank_inside : (u k : ℕ) → Rank p any g u k → Rank p m o u k
   rank_inside u k r = record {
     reached = inside _ _ r.reached;
-    least = λ j q. r.least j (outside _ _ q);
+    least = λ j q. r.least j (wider p m o any g (λ _ _. refl) collected_in _ _ q);
   }
 
 module _ (p : Problem) (bounded : Bounded p) where

@@ -1,6 +1,6 @@
 -- A chain of sets of numbers below n, each made alike from the one before, stands still at its n-th set.
-use Rattle.std.proofs.Common.{◌≡◌, ℕ, zero, suc, ◌+◌, ◌-◌, ◌<◌, ◌≤◌, Bool, true, false, cond, ◌⊎◌, sym, refl, subst, inl, inr, ⊎_elim, arith}
-use Rattle.std.proofs.lemmas.Bool.{cases_eq, false≢true}
+use Rattle.std.proofs.Common.{◌≡◌, ℕ, zero, suc, ◌+◌, ◌-◌, ◌<◌, ◌≤◌, Bool, true, false, cond, ◌⊎◌, refl, inl, inr, ⊎_elim, arith}
+use Rattle.std.proofs.lemmas.Bool.{cases_eq}
 use Rattle.structure.specs.Problem.{Numbers, Member, Within}
 
 -- what a number adds to a count
@@ -22,8 +22,7 @@ abbrev SameOrMore : Numbers → Numbers → ℕ → Type 0
 SameOrMore s t n = ((count s n ≡ count t n) × ((u : ℕ) → u < n → Member t u → Member s u)) ⊎ (count s n < count t n)
 
 one_more : (a b : Bool) → (a ≡ true → b ≡ true) → ((one a ≡ one b) × (b ≡ true → a ≡ true)) ⊎ (one a < one b)
-one_more true true h = inl (refl, λ e. e)
-one_more true false h = absurd (false≢true (h refl))
+one_more true b h = inl (rw (h refl), λ e. refl)
 one_more false true h = inr (omega arith)
 one_more false false h = inl (refl, λ e. e)
 
@@ -32,12 +31,7 @@ same_or_more s t h zero = inl (refl, λ u l. absurd (omega arith))
 same_or_more s t h (suc n) = go (one_more (s n) (t n) (h n)) (same_or_more s t h n)
   where
     go : ((one (s n) ≡ one (t n)) × (Member t n → Member s n)) ⊎ (one (s n) < one (t n)) → SameOrMore s t n → SameOrMore s t (suc n)
-    go (inl here) (inl below) =
-        inl (
-          omega arith,
-          λ u l i.
-              ⊎_elim (λ (e : u ≡ n). subst (Member s) (sym e) (here.1 (subst (Member t) e i))) (λ (e : u ≡ n → ⊥). below.1 u (omega arith) i) (cases_eq u n),
-        )
+    go (inl here) (inl below) = inl (omega arith, λ u l i. elim (cases_eq u n) [ inl e ↦ rw e (here.1 (rw e at i)) | inr e ↦ below.1 u (omega arith) i ])
     go (inl here) (inr more) = inr (omega arith)
     go (inr more) (inl below) = inr (omega arith)
     go (inr here) (inr below) = inr (omega arith)

@@ -1,6 +1,6 @@
 -- The units of a set that lead to something wanted, computed level by level: those that make something wanted, those that make
 -- what these take, and so on.
-use Rattle.std.proofs.Common.{◌≡◌, ℕ, zero, suc, ◌<◌, ◌≤◌, cond, ◌&&◌, ◌||◌, leb, ◌⊎◌, List, get_or, Decides, sym, refl, subst, inl, inr, ⊎_elim, arith}
+use Rattle.std.proofs.Common.{◌≡◌, ℕ, zero, suc, ◌<◌, ◌≤◌, cond, ◌&&◌, ◌||◌, leb, ◌⊎◌, List, get_or, Decides, refl, inl, inr, ⊎_elim, arith}
 use Rattle.std.proofs.lemmas.Bool.{cond_both, leb-true, leb-false, le-leb}
 use Rattle.std.proofs.lemmas.Bool.Decides.{Decides-and, Decides-or, not_from_Decides}
 use Rattle.structure.specs.Problem.{Numbers, Member, Within, Problem, Takes, Makes}
@@ -86,7 +86,7 @@ module _ (p : Problem) (g : Numbers) (known : (u : ℕ) → Member g u → u ≤
       cond_both t (suc k) 0 (Deeper p g k u) (λ i. risen out (d.0 i) refl) (λ i. still_none out (not_from_Decides t d i) refl))
 
   pub level : (k u : ℕ) → Deeper p g k u (rank p g (suc k) u)
-  level k u = subst (Deeper p g k u) (sym (at_table (deeper p g (suc k) (levels p g k)) p.units u 0 (none (deeper_cases k u)))) (deeper_cases k u)
+  level k u = rw (at_table (deeper p g (suc k) (levels p g k)) p.units u 0 (none (deeper_cases k u))) (deeper_cases k u)
     where
       none : {rank' : ℕ} → Deeper p g k u rank' → p.units < u → rank' ≡ 0
       none (kept old same) past = absurd (omega (arith, has_small k u (le-leb 1 (rank p g k u) old)))
@@ -97,7 +97,7 @@ module _ (p : Problem) (g : Numbers) (known : (u : ℕ) → Member g u → u ≤
   has_grows : (k : ℕ) → Within (has p g k) (has p g (suc k))
   has_grows k u i =
       let old : 1 ≤ rank p g k u = leb-true 1 (rank p g k u) i in
-      le-leb 1 (rank p g (suc k) u) (elim (level k u) [ kept w same ↦ omega arith | risen out n new ↦ omega arith | still_none out n none ↦ absurd (omega arith) ])
+      le-leb 1 (rank p g (suc k) u) (elim (level k u) [ kept w same ↦ omega arith | risen out n new ↦ omega arith | still_none out n none ↦ omega arith ])
 
   next_has : (k u : ℕ) → Next p g (has p g k) u → Member (has p g (suc k)) u
   next_has k u i =

@@ -1,12 +1,11 @@
 -- The maximal structure, computed: whether there is a solution-structure, and the union of all.
 use Rattle.std.proofs.Common.{◌≡◌, ℕ, suc, Bool, true, not, ◌||◌, ◌⊎◌, get_or, Decides, inl, inr, ⊎_elim, arith}
-use Rattle.std.proofs.lemmas.Bool.{cases_Bool, both_ways}
 use Rattle.std.proofs.lemmas.Bool.Decides.{Decides-or, Decides-not, Decides-like}
 use Rattle.structure.specs.Problem.{Numbers, Member, Within, Problem, MadeIn, Bounded}
 use Rattle.structure.specs.Structures.{HasSolution, UnionOfAll, HoldsEvery, Rank}
 use Rattle.structure.specs.Supported.{Collected, Spanned, AllMade, NoneBoth}
 use Rattle.structure.proofs.Unions.{starts_in, holds_every_is_union}
-use Rattle.structure.proofs.Searches.{itself, each_below, is_each_below, made_in, is_made_in, taken_in, is_taken_in, standing_known}
+use Rattle.structure.proofs.Searches.{itself, decided, each_below, is_each_below, made_in, is_made_in, taken_in, is_taken_in, standing_known}
 use Rattle.structure.proofs.Collecting.{made_or_not, none_where_unmade, collected_holds_every, rank_inside}
 use Rattle.structure.proofs.Sweeps.{swept, swept_largest}
 use Rattle.structure.proofs.Levels.{ranked, ranks}
@@ -38,8 +37,7 @@ module _ (p : Problem) (bounded : Bounded p) where
   is_spanned : (o : Numbers) → Within o p.standing → Spanned p o (touched_in p o)
   is_spanned o stand x =
       let known = standing_known p bounded o stand in
-      Decides-like (touched_in p o x) (⊎_elim (λ w. (w.0, w.1, inl w.2)) (λ w. (w.0, w.1, inr w.2)))
-      (λ w. ⊎_elim (λ t. inl (w.0, w.1, t)) (λ t. inr (w.0, w.1, t)) w.2)
+      Decides-like (touched_in p o x) (⊎_elim (λ w. (w.0, w.1, inl w.2)) (λ w. (w.0, w.1, inr w.2))) (λ w. ⊎_elim (λ t. inl (w.0, w.1, t)) (λ t. inr (w.0, w.1, t)) w.2)
       (Decides-or (taken_in p o x) (made_in p o x) (is_taken_in p o known x) (is_made_in p o known x))
 
   -- the test for a solution-structure
@@ -47,7 +45,7 @@ module _ (p : Problem) (bounded : Bounded p) where
   is_possible =
       Decides-like (possible p)
       (λ f x w. ⊎_elim (λ unwanted. absurd (unwanted w)) (λ i. i) (f x (let k = bounded.wanted_known x w in omega arith)))
-      (λ f x l. ⊎_elim (λ w. inr (f x w)) (λ e. inl (both_ways (p.wanted x) e)) (cases_Bool (p.wanted x)))
+      (λ f x l. ⊎_elim (λ w. inr (f x w)) inl (decided (p.wanted x) (itself (p.wanted x))))
       (is_each_below (λ x. not (p.wanted x) || made_in p (swept p) x) (λ x. (Member p.wanted x → ⊥) ⊎ MadeIn p (swept p) x)
       (λ x. Decides-or (not (p.wanted x)) (made_in p (swept p) x) (Decides-not (p.wanted x) (itself (p.wanted x)))
       (is_made_in p (swept p) (standing_known p bounded (swept p) swept_stand) x))

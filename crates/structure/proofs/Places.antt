@@ -19,7 +19,7 @@ listed f n = map f (range_with_len 1 n)
 
 -- a sheet's list has all its places
 length_first_of : {X : Type 0} (fresh : X) (xs : List X) → length xs ≤ 1024 → length (first_of fresh xs) ≡ 1024
-length_first_of fresh xs few = length-append xs (replicate (1024 - length xs) fresh) ∙ omega (arith, length-replicate (1024 - length xs) fresh)
+length_first_of fresh xs few = let k = 1024 - length xs in omega (arith, length-append xs (replicate k fresh), length-replicate k fresh)
 
 -- past the first ones all are new
 past_first_of : {X : Type 0} (fresh : X) (xs : List X) (i : ℕ) → length xs ≤ i → get_or (first_of fresh xs) i fresh ≡ fresh

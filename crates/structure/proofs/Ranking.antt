@@ -1,5 +1,5 @@
 -- The ranks among the units of a set: a unit's level is its rank.
-use Rattle.std.proofs.Common.{◌≡◌, ℕ, zero, suc, ◌<◌, ◌≤◌, get_or, sym, refl, subst, inl, inr, arith}
+use Rattle.std.proofs.Common.{◌≡◌, ℕ, zero, suc, ◌<◌, ◌≤◌, get_or, refl, subst, inl, inr, arith}
 use Rattle.std.proofs.lemmas.Bool.{leb-true, le-leb}
 use Rattle.structure.specs.Problem.{Numbers, Member, Problem}
 use Rattle.structure.specs.Structures.{Path, Rank}
@@ -46,7 +46,7 @@ module _ (p : Problem) (g : Numbers) (known : (u : ℕ) → Member g u → u ≤
     near_more : (u : ℕ) → 1 ≤ rank p g (suc k) u → (rank p g (suc k) u ≤ suc k) × Path p any g (unit u) (rank p g (suc k) u)
     near_more u h =
         elim (level p g known k u) [
-          | kept old same ↦ (let (low, q) = up.near u old in (omega arith, subst (Path p any g (unit u)) (sym same) q))
+          | kept old same ↦ (let (low, q) = up.near u old in (omega arith, rw same q))
           | risen out n new ↦ (let (j, l, q) = next_path u n in (omega arith, subst (Path p any g (unit u)) (omega (arith, too_far u j out q)) q))
           | still_none out n none ↦ absurd (omega arith)
         ]

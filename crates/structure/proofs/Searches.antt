@@ -1,8 +1,8 @@
 -- Tests over the numbers below a bound, over the entries of a list and over the units of a set, each with what it decides.
-use Rattle.std.proofs.Common.{◌≡◌, ℕ, zero, suc, ◌<◌, ◌≤◌, Bool, true, false, ◌&&◌, ◌||◌, eqb, leb, ◌⊎◌, List, [], ◌∷◌, Decides, sym, refl, subst, inl, inr, ⊎_elim, arith}
+use Rattle.std.proofs.Common.{◌≡◌, ℕ, zero, suc, ◌<◌, ◌≤◌, Bool, true, false, ◌&&◌, ◌||◌, eqb, leb, ◌⊎◌, List, [], ◌∷◌, Decides, refl, inl, inr, ⊎_elim, arith}
 use Rattle.std.specs.List.{AllByRecursion}
 use Rattle.std.proofs.lemmas.Bool.{cases_Bool, or_cases, or_left, or_right, eqb-true, eq-eqb, leb-true, le-leb, false≢true}
-use Rattle.std.proofs.lemmas.Bool.Decides.{Decides-and, Decides-like, Decides-below_and, Decides-below_or, not_from_Decides}
+use Rattle.std.proofs.lemmas.Bool.Decides.{Decides-and, Decides-like, Decides-or, Decides-below_and, Decides-below_or, not_from_Decides}
 use Rattle.std.proofs.ByRecursion.{Decides-by_and}
 use Rattle.book.specs.Declined.{inside}
 use Rattle.book.specs.Layers.{names}
@@ -46,10 +46,7 @@ names_first y ys = or_left (eqb y y) (names y ys) (eq-eqb y y refl)
 pub all_named : (P : ℕ → Type 0) (xs : List ℕ) → AllByRecursion P xs → (x : ℕ) → names x xs ≡ true → P x
 all_named P [] a x e = absurd (false≢true e)
 all_named P (y ∷ ys) a x e =
-    ⊎_elim
-    (λ (i : eqb x y ≡ true). subst P (sym (eqb-true x y i)) a.0)
-    (λ (i : names x ys ≡ true). all_named P ys a.1 x i)
-    (or_cases (eqb x y) (names x ys) e)
+    ⊎_elim (λ i. rw (eqb-true x y i) a.0) (λ i. all_named P ys a.1 x i) (or_cases (eqb x y) (names x ys) e)
 
 named_all : (P : ℕ → Type 0) (xs : List ℕ) → ((x : ℕ) → names x xs ≡ true → P x) → AllByRecursion P xs
 named_all P [] f = tt
@@ -71,13 +68,11 @@ module _ (test : Numbers) (P : ℕ → Type 0) (tells : (x : ℕ) → Decides (t
 
   pub is_some_entry : (xs : List ℕ) → Decides (some_entry test xs) ((x : ℕ) × (names x xs ≡ true) × P x)
   is_some_entry [] = (λ e. absurd (false≢true e), λ w. absurd (false≢true w.1))
-  is_some_entry (y ∷ ys) = (
-    λ e. ⊎_elim (λ i. (y, names_first y ys, (tells y).0 i)) (λ i. let w = (is_some_entry ys).0 i in (w.0, or_right (eqb w.0 y) (names w.0 ys) w.1, w.2))
-        (or_cases (test y) (some_entry test ys) e),
-    λ w. ⊎_elim (λ i. or_left (test y) (some_entry test ys) ((tells y).1 (subst P (eqb-true w.0 y i) w.2)))
-        (λ i. or_right (test y) (some_entry test ys) ((is_some_entry ys).1 (w.0, i, w.2)))
-        (or_cases (eqb w.0 y) (names w.0 ys) w.1),
-  )
+  is_some_entry (y ∷ ys) =
+      Decides-like (test y || some_entry test ys)
+      (⊎_elim (λ e. (y, names_first y ys, e)) (λ w. (w.0, or_right (eqb w.0 y) (names w.0 ys) w.1, w.2)))
+      (λ w. ⊎_elim (λ i. inl (rw (eqb-true w.0 y i) at w.2)) (λ i. inr (w.0, i, w.2)) (or_cases (eqb w.0 y) (names w.0 ys) w.1))
+      (Decides-or (test y) (some_entry test ys) (tells y) (is_some_entry ys))
 
 -- some unit of o, up to number n, names x in its list
 abbrev some_unit : ℕ → Numbers → (ℕ → List ℕ) → Numbers

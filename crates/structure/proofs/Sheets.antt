@@ -7,7 +7,7 @@ use Rattle.structure.specs.declared.Mark.{Mark}
 use Rattle.structure.specs.declared.Mark.TheVariants.{Unasked}
 use Rattle.structure.specs.Problem.{Numbers, Member, Problem, Bounded}
 use Rattle.structure.specs.Structures.{UnionOfAll, Rank}
-use Rattle.structure.specs.Answers.{Drawing, is_drawn, mark_of, rank_of, drawn, Marked, mark_for, UnitMarked, MaterialMarked, Shows}
+use Rattle.structure.specs.Answers.{Drawing, is_drawn, mark_of, rank_of, drawn, Marked, mark_for, Shows}
 use Rattle.structure.specs.Farms.{first_of}
 use Rattle.structure.proofs.Unions.{unit_there, material_there}
 use Rattle.structure.proofs.Searches.{itself, is_inside}
@@ -49,11 +49,10 @@ module _ (p : Problem) (m o : Numbers) (all : UnionOfAll p m o) (r : ℕ → ℕ
     unit_places = by_number.unit_places;
     material_places = by_number.material_places;
     rank_places = by_number.rank_places;
-    units = λ u. subst (UnitMarked p u) (sym (by_number.unit_marks u)) (marked_for (o u) (p.standing u) _ _ (all.units u) (itself (p.standing u)));
-    materials = λ x. subst (MaterialMarked p x) (sym (by_number.material_marks x)) (marked_for (m x) (inside x p.materials) _ _ (all.materials x) (is_inside x p.materials));
-    ranked = λ u i. subst₂ (λ (m' o' : Numbers). Rank p m' o' u (rank_of d.ranks u)) (sym materials_drawn) (sym units_drawn)
-        (subst (Rank p m o u) (sym (by_number.ranks u)) (ranks u (subst (λ (s : Numbers). Member s u) units_drawn i)));
-    unranked = λ u out. by_number.ranks u ∙ unranked u (λ i. out (subst (λ (s : Numbers). Member s u) (sym units_drawn) i));
+    units = λ u. rw (by_number.unit_marks u) (marked_for (o u) (p.standing u) _ _ (all.units u) (itself (p.standing u)));
+    materials = λ x. rw (by_number.material_marks x) (marked_for (m x) (inside x p.materials) _ _ (all.materials x) (is_inside x p.materials));
+    ranked = λ u. subst₂ (λ (m' o' : Numbers). Member o' u → Rank p m' o' u (rank_of d.ranks u)) (sym materials_drawn) (sym units_drawn) (λ i. rw (by_number.ranks u) (ranks u i));
+    unranked = λ u out. by_number.ranks u ∙ unranked u (subst (λ (s : Numbers). Member s u → ⊥) units_drawn out);
     units_counted = by_number.units_counted;
     materials_counted = by_number.materials_counted;
   }

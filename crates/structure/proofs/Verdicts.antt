@@ -57,10 +57,8 @@ module _ (p : Problem) (bounded : Bounded p) where
     drawing_shows : possible p ≡ true → Shows p (drawing p)
     drawing_shows e =
         let all = holds_every_is_union p (maximal_materials p) (maximal_units p) (maximal_holds_every p bounded e) in
-        sheet_shows p bounded (maximal_materials p) (maximal_units p) all few_units few_materials (λ u. get_or (ranks p (swept p)) u 0) (maximal_ranks p bounded e) unranked
-      where
-        unranked : (u : ℕ) → (Member (maximal_units p) u → ⊥) → get_or (ranks p (swept p)) u 0 ≡ 0
-        unranked u out = let r = get_or (ranks p (swept p)) u 0 in omega (arith, leb-false 1 r (false_from_ne_true (leb 1 r) out))
+        sheet_shows p bounded (maximal_materials p) (maximal_units p) all few_units few_materials (λ u. get_or (ranks p (swept p)) u 0) (maximal_ranks p bounded e)
+        (λ u out. let r = get_or (ranks p (swept p)) u 0 in omega (arith, leb-false 1 r (false_from_ne_true (leb 1 r) out)))
 
     -- the answer keeps to the rules, from the last ground to the first
     apart_draws : SomeWanted p → SomeBought p → (SomeBoth p → ⊥) → Draws p (where_apart p)

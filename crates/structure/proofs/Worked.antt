@@ -31,7 +31,7 @@ book_fits m = leb (material_count m) 1024 && (leb (unit_count m) 1024 && states_
 
 list_within : (l : ℕ) (xs : List ℕ) → list_fits l xs ≡ true → Listed l xs
 list_within l xs e =
-    let (few, known) = and_parts (leb (length xs) 8) (each_entry (λ x. inside x l) xs) e in
+    let (few, known) = and_parts (leb (length xs) 8) _ e in
     record { few = leb-true (length xs) 8 few; known = (is_all (λ x. inside x l) (λ x. (1 ≤ x) × (x ≤ l)) (λ x. is_inside x l) xs).0 known }
 
 unit_within : (l : ℕ) (f : Fitted) → unit_fits l f ≡ true → FittedWithin l f
@@ -50,8 +50,8 @@ states_within l (s ∷ ss) e = let (first, rest) = and_parts (state_fits l s) (s
 
 pub book_well_formed : (m : Meaning) → book_fits m ≡ true → WellFormed m
 book_well_formed m e =
-    let (materials, rest) = and_parts (leb (material_count m) 1024) (leb (unit_count m) 1024 && states_fit (material_count m) m.units) e in
-    let (units, lists) = and_parts (leb (unit_count m) 1024) (states_fit (material_count m) m.units) rest in
+    let (materials, rest) = and_parts (leb (material_count m) 1024) _ e in
+    let (units, lists) = and_parts (leb (unit_count m) 1024) _ rest in
     record {
       few_materials = leb-true (material_count m) 1024 materials;
       few_units = leb-true (unit_count m) 1024 units;
