@@ -50,10 +50,7 @@ column_first w n f =
 not_shorter : (w m n : ℕ) → Fits w n → column w m ≡ column w n → length (decimal m) < length (decimal n) → ⊥
 not_shorter w m n g e h =
     let k = w - length (decimal n) in
-    let a : get_or (column w m) k 0 ≡ 32 = column_space w m k (omega (arith, g.narrow)) in
-    let b = column_first w n g in
-    let c = ap (λ (ds : List ℕ). get_or ds k 0) e in
-    omega arith
+    omega (arith, column_space w m k (omega (arith, g.narrow)), column_first w n g, ap (λ (ds : List ℕ). get_or ds k 0) e)
 
 -- a column shows one number only
 pub same_column : (w m n : ℕ) → Fits w m → Fits w n → column w m ≡ column w n → m ≡ n
@@ -76,7 +73,5 @@ shown_not_blank bytes n s e =
     let w = length bytes in
     let some = decimal_nonempty n (small_64 n s.fits.small) in
     let k = w - length (decimal n) in
-    let a = column_first w n s.fits in
-    let b : get_or (blanks w) k 0 ≡ 32 = get_or-replicate w k 32 0 (omega (arith, s.fits.narrow)) in
-    let c = ap (λ (ds : List ℕ). get_or ds k 0) (sym s.written ∙ e) in
-    omega arith
+    let space : get_or (blanks w) k 0 ≡ 32 = get_or-replicate w k 32 0 (omega (arith, s.fits.narrow)) in
+    omega (arith, column_first w n s.fits, ap (λ (ds : List ℕ). get_or ds k 0) (sym s.written ∙ e))

@@ -24,15 +24,11 @@ shows_from bytes k n h e =
 
 -- a blank field with a space more is blank
 pub blank_more : (bytes : List ℕ) (b : ℕ) → bytes ≡ blanks (length bytes) → b ≡ 32 → bytes ++ (b ∷ []) ≡ blanks (length (bytes ++ (b ∷ [])))
-blank_more bytes b e space =
-    let more = replicate_more {X = ℕ} (length bytes) 32 in
-    blank_from (bytes ++ (b ∷ [])) (length bytes + 1) (cc)
+blank_more bytes b e space = blank_from (bytes ++ (b ∷ [])) (length bytes + 1) (cc (replicate_more {X = ℕ} (length bytes) 32))
 
 -- a blank field with a digit more shows that digit
 pub shows_first : (bytes : List ℕ) (b d : ℕ) → bytes ≡ blanks (length bytes) → b ≡ 48 + d → d < 10 → Shows (bytes ++ (b ∷ [])) d
-shows_first bytes b d e digit h =
-    let one = decimal_digit d h in
-    shows_from (bytes ++ (b ∷ [])) (length bytes) d (omega arith) (cc)
+shows_first bytes b d e digit h = shows_from (bytes ++ (b ∷ [])) (length bytes) d (omega arith) (cc (decimal_digit d h))
 
 -- a number's digits, and one more
 pub decimal_more : (n d : ℕ) → 0 < n → n < 100000000 → d < 10 → decimal (10 * n + d) ≡ decimal n ++ ((48 + d) ∷ [])
@@ -40,8 +36,7 @@ decimal_more n d some small h =
     let m = 10 * n + d in
     let front : m / 10 ≡ n = omega arith in
     let last : m % 10 ≡ d = omega arith in
-    let step = decimal_step m (omega arith) (small_64 m (omega arith)) in
-    cc
+    cc (decimal_step m (omega arith) (small_64 m (omega arith)))
 
 -- a field that shows n, with the digit d more, shows ten times n, and d
 pub shows_more : (bytes : List ℕ) (b n d : ℕ) → Shows bytes n → 0 < n → n < 100000000 → b ≡ 48 + d → d < 10 → Shows (bytes ++ (b ∷ [])) (10 * n + d)
@@ -55,10 +50,7 @@ shows_more bytes b n d s some small digit h =
 
 -- the front of a blank field is blank, and its last byte a space
 pub blank_front : (bytes : List ℕ) (b : ℕ) → bytes ++ (b ∷ []) ≡ blanks (length (bytes ++ (b ∷ []))) → (bytes ≡ blanks (length bytes)) × (b ≡ 32)
-blank_front bytes b e =
-    let len = length-append bytes (b ∷ []) in
-    let more = replicate_more {X = ℕ} (length bytes) 32 in
-    same_from_push bytes (blanks (length bytes)) b 32 (cc)
+blank_front bytes b e = same_from_push bytes (blanks (length bytes)) b 32 (cc (length-append bytes (b ∷ []), replicate_more {X = ℕ} (length bytes) 32))
 
 -- the front of a field that shows a number: blank before a lone digit, else it shows the number without its last digit
 pub shown_front : (bytes : List ℕ) (b n : ℕ) → Shows (bytes ++ (b ∷ [])) n →
