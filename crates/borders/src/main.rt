@@ -29,7 +29,8 @@ fn try_lists<B: EditableBook>(rt: &HostRuntime, book: &mut B) -> anyhow::Result<
         rt,
         "eight inputs and eight outputs",
         book.fit(1, lists(&EIGHT, &EIGHT)),
-    )
+    )?;
+    Ok(())
 }
 
 // Numbers around the ends of a book.
@@ -48,7 +49,8 @@ fn try_numbers<B: EditableBook>(
     say(rt, "class past the last", book.class(past, Class::BOTH))?;
     say(rt, "hide past the last", book.hide(past))?;
     say(rt, "show past the last", book.show(past))?;
-    say(rt, "clear past the last", book.clear(past))
+    say(rt, "clear past the last", book.clear(past))?;
+    Ok(())
 }
 
 // A table that is larger than a book can be.

@@ -1,5 +1,5 @@
 -- What an edit makes that no reason declines. Assumes nothing.
-use Rattle.std.proofs.Common.{◌≡◌, ℕ, List, None, Some, Ok, Err, Result, OnOk, sym, ap, ◌∙◌, subst, arith}
+use Rattle.std.proofs.Common.{◌≡◌, ℕ, List, None, Some, Ok, Err, Result, sym, ap, ◌∙◌, subst, arith}
 use Rattle.book.specs.declared.Refusal.{Refusal}
 use Rattle.book.specs.declared.books.Lists.{Lists}
 use Rattle.book.specs.Meaning.{Meaning, standing}
@@ -22,8 +22,3 @@ fit_done meaning k x is os m b c r i o free told e =
     let given : lists_given x ≡ record { inputs = is; outputs = os } =
     ap (λ a. record { inputs = a; outputs = x.outputs.now }) i ∙ ap (λ a. record { inputs = is; outputs = a }) o in
     edit_done meaning (fit_edit k (record { inputs = is; outputs = os })) m b c r free (subst (λ f. Edited meaning (fit_edit k f) b c r) given told) e
-
--- what holds at any answer holds at an accepting one
-pub on_any : {T E : Type 0} {P : Type 0} (r : Result T E) → P → OnOk r P
-on_any (Ok x) p = p
-on_any (Err x) p = tt

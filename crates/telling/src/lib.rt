@@ -1,18 +1,20 @@
 // What came of an edit, in words, and the small farm made by edits.
 #![tactic(auto)]
 
-ghost use Rattle.std.specs.Prelude.{◌≡◌, IfOk, OnOk};
+ghost use Rattle.std.specs.Prelude.{◌≡◌, IfOk, OnOk, is_ok};
 ghost use Rattle.telling.specs.SmallFarm.{blank_farm, small_farm};
 
 use book::{Class, EditableBook, Lists, Refusal};
 
-// Tells what came of an edit.
-pub fn say(rt: &HostRuntime, edit: &str, answer: Result<(), Refusal>) -> anyhow::Result<()> {
+// Tells what came of an edit, and answers whether it was done.
+pub fn say(rt: &HostRuntime, edit: &str, answer: Result<(), Refusal>) -> anyhow::Result<bool>
+    ensures { IfOk result (λ done. done ≡ is_ok answer) }
+{
     match answer {
         Ok(()) => println!(rt; "  {edit}: done")?,
         Err(refusal) => println!(rt; "  {edit}: refused with {refusal}")?,
     }
-    Ok(())
+    Ok(answer.is_ok())
 }
 
 // Tells what a call answered, in words of the caller, or with what it was refused.
@@ -57,5 +59,6 @@ pub fn make_farm<B: EditableBook>(rt: &HostRuntime, book: &mut B) -> anyhow::Res
         rt,
         "fit at 2: takes 4, makes 1",
         book.fit(2, lists(&[4], &[1])),
-    )
+    )?;
+    Ok(())
 }

@@ -13,7 +13,8 @@ fn edit_farm<B: EditableBook>(rt: &HostRuntime, book: &mut B) -> anyhow::Result<
         rt,
         "fit at 2: takes 3 and 4, makes 1",
         book.fit(2, lists(&[3, 4], &[1])),
-    )
+    )?;
+    Ok(())
 }
 
 // Edits that are refused.
@@ -36,7 +37,8 @@ fn refuse_edits<B: EditableBook>(rt: &HostRuntime, book: &mut B) -> anyhow::Resu
     )?;
     say(rt, "hide 0", book.hide(0))?;
     say(rt, "show 1, which stands", book.show(1))?;
-    say(rt, "clear 3 of 2", book.clear(3))
+    say(rt, "clear 3 of 2", book.clear(3))?;
+    Ok(())
 }
 
 // One list of a unit.
