@@ -4,19 +4,22 @@
 mod books;
 mod kind;
 
-use anyhow::{Context, bail};
+use anyhow::{anyhow, bail};
 use drawing::draw;
 use kind::Kind;
 use sheet::Sheet;
 use std::env;
 use table::{MaterialRow, TableBook, UnitRow};
 
-fn run(rt: &HostRuntime, kind: Kind, units: u16, times: u16) -> anyhow::Result<()> {
+fn run(rt: &HostRuntime, kind: &str, units: u16, times: u16) -> anyhow::Result<()> {
     let mut material_rows = vec![in rt.alloc(); MaterialRow::PLAIN; 512]?;
     let mut unit_rows = vec![in rt.alloc(); UnitRow::FREE; units as usize]?;
     let mut book = TableBook::open(material_rows.as_mut_slice(), unit_rows.as_mut_slice());
+    // The kind is read last of the three words, so that a number that is none is told first.
+    let kind = kind.parse::<Kind>()?;
+    // Said alone: why the book took no more is none of the words' fault.
     kind.make(&mut book, units)
-        .context("the book could not be made")?;
+        .map_err(|_| anyhow!("the book could not be made"))?;
     let mut drawn = 0u32;
     let mut refused = 0u32;
     for _ in 0..times {
@@ -37,7 +40,7 @@ fn main(rt: HostRuntime) -> anyhow::Result<()> {
     };
     run(
         &rt,
-        kind.as_str().parse::<Kind>()?,
+        kind.as_str(),
         units.as_str().parse::<u16>()?,
         times.as_str().parse::<u16>()?,
     )
