@@ -1,15 +1,22 @@
 // An edit chosen by the generator, often one that has to be refused.
 use crate::generator::Generator;
 use book::{Class, EditableBook, Refusal};
-use std::alloc::{AllocError, Global};
+use samples::front;
 use telling::lists;
 
-#[derive(Drop)]
+// A list to fit a unit with: so many of the entries. No vector, since a choice can then run out of memory.
+#[derive(Clone, Copy)]
+pub struct ListChoice {
+    entries: [u16; 9],
+    count: usize,
+}
+
+#[derive(Clone, Copy)]
 pub enum Edit {
     Fit {
         unit: u16,
-        inputs: Vec<u16>,
-        outputs: Vec<u16>,
+        inputs: ListChoice,
+        outputs: ListChoice,
     },
     Class(u16, Class),
     Hide(u16),
@@ -18,26 +25,32 @@ pub enum Edit {
 }
 
 // A list of up to nine entries, each a little above the one before it, or equal to it.
-fn chosen_list(heap: Global, generator: &mut Generator) -> Result<Vec<u16>, AllocError> {
-    let mut list = Vec::new(heap);
+fn chosen_list(generator: &mut Generator) -> ListChoice {
+    let mut entries = [0u16; 9];
     let mut last = 0u16;
-    for _ in 0..9 {
+    for entry in entries.iter_mut() {
         last = last.saturating_add((generator.next() % 9 + 3) / 4);
-        list.push(last)?;
+        *entry = last;
     }
     let most = if generator.next() % 16 == 0 { 10 } else { 4 };
-    list.truncate(usize::from(generator.next() % most));
-    Ok(list)
+    let count = usize::from(generator.next() % most);
+    ListChoice { entries, count }
+}
+
+impl ListChoice {
+    fn as_slice(&self) -> &[u16] {
+        front(&self.entries, self.count)
+    }
 }
 
 impl Edit {
-    pub(crate) fn choose(heap: Global, generator: &mut Generator) -> Result<Edit, AllocError> {
+    pub(crate) fn choose(generator: &mut Generator) -> Edit {
         let number = generator.next() % 8;
-        Ok(match generator.next() % 6 {
+        match generator.next() % 6 {
             0 | 1 => Edit::Fit {
                 unit: number,
-                inputs: chosen_list(heap, generator)?,
-                outputs: chosen_list(heap, generator)?,
+                inputs: chosen_list(generator),
+                outputs: chosen_list(generator),
             },
             2 => Edit::Class(
                 number,
@@ -49,7 +62,7 @@ impl Edit {
             3 => Edit::Hide(number),
             4 => Edit::Show(number),
             _ => Edit::Clear(number),
-        })
+        }
     }
 
     // The edit, made on a book.
