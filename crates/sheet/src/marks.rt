@@ -11,7 +11,12 @@ use structure::Mark;
 fn drawn_among(marks: &[Mark; PLACES]) -> u16
     ensures { result ≡ count_by is_drawn marks.now }
 {
-    marks.iter().filter(|mark| mark.is_drawn()).count() as u16
+    // A loop: adapters of an iterator go mark by mark here, and take twice as long.
+    let mut count = 0;
+    for mark in marks {
+        count += u16::from(mark.is_drawn());
+    }
+    count
 }
 
 // The place of a number from 1 to 1,024.
