@@ -10,9 +10,13 @@ use Rattle.columns.specs.Columns.{blanks, column, Fits, Shows}
 pub small_64 : (n : ℕ) → n < 1000000000 → n < 2 ^ 64
 small_64 n h = omega arith
 
+-- a number below ten to the width fits
+pub fits_below : (w n : ℕ) → 0 < w → n < 1000000000 → n < 10 ^ w → Fits w n
+fits_below w n some small h = record { small = small; narrow = length-decimal-le w n some h (small_64 n small) }
+
 -- a number of at most five digits fits five columns
 pub fits_five : (n : ℕ) → n < 100000 → Fits 5 n
-fits_five n h = record { small = omega arith; narrow = length-decimal-le 5 n (omega arith) (omega arith) (omega arith) }
+fits_five n h = fits_below 5 n (omega arith) (omega arith) (omega arith)
 
 -- a column is as wide as it should be
 pub length_column : (w n : ℕ) → Fits w n → length (column w n) ≡ w

@@ -51,12 +51,30 @@ length_unit_line l k s hl hk w =
     let within = lists_within l s w in
     length_unit_of (state_letter s) k (list_bytes (inputs_of s)) (list_bytes (outputs_of s)) hk (length_known_list l (inputs_of s) hl within.0) (length_known_list l (outputs_of s) hl within.1)
 
--- bytes whose first field is right for the number k alone begin with k
+-- bytes that begin with a number from `low` to `high` in five columns
+record NumberFirst (low high : ℕ) (t : List ℕ) : Type 0 where
+  value : ℕ
+  least : low ≤ value
+  greatest : value ≤ high
+  written : t ≡ column number_width value ++ drop number_width t
+
+-- so do those whose first field is such a number's and right
+number_first : (low high : ℕ) (fs : List Field) (t : List ℕ) → number_width ≤ length t → AllRight (number_field low high ∷ fs) t → NumberFirst low high t
+number_first low high fs t long all =
+    let r = all_first (number_field low high) fs t all in
+    record {
+      value = r.0;
+      least = r.2;
+      greatest = r.3;
+      written = halves number_width t (column number_width r.0) (drop number_width t) (column_from_shows (take number_width t) r.0 (length-take-le number_width t long) r.1) refl;
+    }
+
+-- and those whose first field is right for the number k alone begin with k
 this_number_first : (k : ℕ) (fs : List Field) (t : List ℕ) → number_width ≤ length t → AllRight (number_field k k ∷ fs) t → t ≡ column number_width k ++ drop number_width t
 this_number_first k fs t long all =
-    let r = all_first (number_field k k) fs t all in
-    let e : r.0 ≡ k = omega (arith, r.2, r.3) in
-    halves number_width t (column number_width k) (drop number_width t) (column_from_shows (take number_width t) r.0 (length-take-le number_width t long) r.1 ∙ ap (column number_width) e) refl
+    let r = number_first k k fs t long all in
+    let e : r.value ≡ k = omega (arith, r.least, r.greatest) in
+    r.written ∙ ap (λ n. column number_width n ++ drop number_width t) e
 
 -- a number within its bounds is right in five columns, before right fields
 number_then : (low high n : ℕ) (fs : List Field) (rest : List ℕ) → n ≤ most → low ≤ n → n ≤ high → AllRight fs rest → AllRight (number_field low high ∷ fs) (column number_width n ++ rest)
@@ -75,7 +93,38 @@ newline_from_last t one all = by (all_first newline_field [] t all) where
   by (zero, h, e) = sym (take_all 1 t (omega arith)) ∙ e
   by (suc i, h, e) = absurd (omega arith)
 
--- the first line of counts within bounds has right fields
+-- the counts that the first line shows
+pub record CountsIn (t : List ℕ) : Type 0 where
+  pub materials : ℕ
+  pub units : ℕ
+  pub some_material : 1 ≤ materials
+  pub few_materials : materials ≤ 512
+  pub some_unit : 1 ≤ units
+  pub few_units : units ≤ 512
+  pub written : t ≡ counts_line materials units
+
+-- a first line whose fields are right is that of some counts within bounds
+pub counts_from_right : (l : ℕ) (t : List ℕ) → length t ≡ 11 → AllRight (fields l counts t) t → CountsIn t
+counts_from_right l t wide all =
+    let n = number_field 1 most in
+    let u = drop number_width t in
+    let lu : length u ≡ 6 = omega (arith, length-drop number_width t) in
+    let lv : length (drop number_width u) ≡ 1 = omega (arith, length-drop number_width u) in
+    let all-u = all_rest n (n ∷ (newline_field ∷ [])) t all in
+    let a = number_first 1 most (n ∷ (newline_field ∷ [])) t (omega arith) all in
+    let b = number_first 1 most (newline_field ∷ []) u (omega arith) all-u in
+    let e = newline_from_last (drop number_width u) lv (all_rest n (newline_field ∷ []) u all-u) in
+    record {
+      materials = a.value;
+      units = b.value;
+      some_material = a.least;
+      few_materials = a.greatest;
+      some_unit = b.least;
+      few_units = b.greatest;
+      written = a.written ∙ ap (λ (r : List ℕ). column number_width a.value ++ r) (b.written ∙ ap (λ (r : List ℕ). column number_width b.value ++ r) e);
+    }
+
+-- and the first line of counts within bounds has right fields
 pub counts_right : (l a b : ℕ) → 1 ≤ a → a ≤ 512 → 1 ≤ b → b ≤ 512 → AllRight (fields l counts (counts_line a b)) (counts_line a b)
 counts_right l a b some-a few-a some-b few-b =
     let n = number_field 1 most in

@@ -14,6 +14,10 @@ use Rattle.pagebook.specs.Reading.{number_shown, numbers_in, list_in}
 use Rattle.pagebook.specs.PageLaws.{climbing_on, climbing_off, climbing_by, climbing_short, length_numbers}
 use Rattle.pagebook.proofs.Shown.{shown_number, blank_shown}
 
+-- the numbers of a list that climbs rise
+pub climbing_rises : (last highest : ℕ) (xs : List ℕ) → Rising last (climbing last highest xs)
+climbing_rises last highest xs = climbing_by highest (λ last xs ys. Rising last ys) (λ last xs. tt) (λ last x xs ys above below h. (above, h)) last xs
+
 -- the second list is a front of the first, place by place
 abbrev Front : List ℕ → List ℕ → Type 0
 Front xs ys = (k : ℕ) → k < length ys → get_or ys k 0 ≡ get_or xs k 0
@@ -41,7 +45,12 @@ numbers_first part rest c wide =
     let others = drop_at part rest number_width wide in
     cc
 
--- so the k-th number of the list is the one in the k-th field
+-- so a list that is read from its fields rises
+pub list_rising : (l : ℕ) (bytes : List ℕ) → Rising 0 (list_in l bytes)
+unfolding list_in
+list_rising l bytes = climbing_rises 0 l (numbers_in bytes list_fields)
+
+-- and its k-th number is the one in the k-th field
 pub list_at : (l : ℕ) (bytes : List ℕ) (k : ℕ) → k < length (list_in l bytes) → get_or (list_in l bytes) k 0 ≡ number_shown (take number_width (drop (number_width * k) bytes))
 unfolding list_in
 list_at l bytes k h =

@@ -6,12 +6,16 @@ use Rattle.structure.specs.Problem.{Numbers, Member, Within, Problem, MadeIn, To
 use Rattle.structure.specs.Structures.{Node, Path, SolutionStructure, HasSolution, UnitInSome, MaterialInSome, UnionOfAll, HoldsEvery}
 use Rattle.structure.specs.Structures.Path.{arrived, taken, made}
 
+-- what a unit of bounded lists touches is a material of the book
+pub touched_known : (p : Problem) → Bounded p → (o : Numbers) (x : ℕ) → Touched p o x → (1 ≤ x) × (x ≤ p.materials)
+touched_known p b o x (u, i, t) = ⊎_elim (b.inputs_known u x) (b.outputs_known u x) t
+
 -- a unit that some solution-structure has stands, and a material that some has is one of the book's
 pub unit_there : (p : Problem) (u : ℕ) → UnitInSome p u → Member p.standing u
 unit_there p u (m, o, s, i) = s.units_stand u i
 
 pub material_there : (p : Problem) → Bounded p → (x : ℕ) → MaterialInSome p x → (1 ≤ x) × (x ≤ p.materials)
-material_there p bounded x (m, o, s, i) = let (u, j, t) = s.materials_used x i in ⊎_elim (bounded.inputs_known u x) (bounded.outputs_known u x) t
+material_there p bounded x (m, o, s, i) = touched_known p bounded o x (s.materials_used x i)
 
 -- a path through fewer materials and units is one through more
 pub wider : (p : Problem) (m o m' o' : Numbers) → Within m m' → Within o o' → (a : Node) (k : ℕ) → Path p m o a k → Path p m' o' a k

@@ -1,4 +1,5 @@
 pub mod Climbs
+pub mod Filled
 pub mod Places
 pub mod Seen
 pub mod Written

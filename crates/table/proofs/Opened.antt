@@ -12,24 +12,15 @@ use Rattle.table.specs.declared.rows.UnitRow.{UnitRow}
 use Rattle.table.specs.declared.TableBook.{TableBook}
 use Rattle.table.specs.Rows.{most_rows, used, material_in, state_in, materials_in, units_in, of_rows, row_of, Exact, RowsKept, fresh, plain_row, new_book}
 use Rattle.table.specs.Tables.{table_meaning, TableKept}
+use Rattle.table.proofs.Filled.{drop_used, fill_end}
 
 -- rows of a table that is opened: they are used as before, and each is read as one row is
 module _ {R : Type 0} (row : R) (rows : List R) where
-  -- past the rows that are used are those past the most that can be
-  drop_used : drop (used rows) rows ≡ drop most_rows rows
-  drop_used =
-      ⊎_elim
-      (λ (few : length rows < most_rows). drop_all (used rows) rows (omega arith) ∙ sym (drop_all most_rows rows (omega arith)))
-      (λ (many : most_rows ≤ length rows). let n : used rows ≡ most_rows = omega arith in ap (λ k. drop k rows) n)
-      (cases_lt (length rows) most_rows)
-
   -- they are made by a row that is written over the first of them
   pub fresh_made : (n : ℕ) (front : List R) → n ≡ used rows → front ≡ replicate (length (take n rows)) row → front ++ drop n rows ≡ fresh row rows
   fresh_made n front count filled =
-      let size : length (take n rows) ≡ used rows = simp length-take (omega arith) in
-      ap (λ xs. xs ++ drop n rows) (filled ∙ ap (λ m. replicate m row) size)
-      ∙ ap (λ m. replicate (used rows) row ++ drop m rows) count
-      ∙ ap (λ rest. replicate (used rows) row ++ rest) drop_used
+      let size : length (take n rows) ≡ n = simp length-take (omega arith) in
+      fill_end n row (front ++ drop n rows) rows (ap (λ xs. xs ++ drop n rows) (filled ∙ ap (λ m. replicate m row) size)) count
 
   -- the rows that are used are all alike, and the others stay
   take_fresh : take most_rows (fresh row rows) ≡ replicate (used rows) row
@@ -47,7 +38,7 @@ module _ {R : Type 0} (row : R) (rows : List R) where
   rows_fresh = record {
     size = simp (length-append, length-replicate, length-drop) (omega arith);
     beyond =
-        ap (λ rest. drop most_rows (replicate (used rows) row ++ rest)) (sym drop_used)
+        ap (λ rest. drop most_rows (replicate (used rows) row ++ rest)) (sym (drop_used rows))
         ∙ drop-append-drop (used rows) rows (replicate (used rows) row) most_rows (omega arith) (length-replicate (used rows) row);
   }
 
