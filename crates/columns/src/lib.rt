@@ -1,7 +1,7 @@
 // Number columns: a number stands right-justified in a field of fixed width, spaces to its left, no zero in front.
 #![tactic(auto)]
 
-ghost use Rattle.std.specs.Prelude.{◌≡◌, ℕ, ◌+◌, ◌%◌, ◌<◌, length, decimal, Decides, Some, codes};
+ghost use Rattle.std.specs.Prelude.{◌≡◌, ℕ, ◌+◌, ◌%◌, ◌^◌, ◌<◌, length, min, if◌then◌else◌, nat_eq, Decides, Some, codes};
 ghost use Rattle.columns.specs.Columns.{column, Fits, Shows, Holds, Wrote};
 ghost use Rattle.columns.specs.Reading.{Next};
 
@@ -82,18 +82,30 @@ pub fn write(field: &mut [u8], width: usize, number: u32) -> Result<(), DoesNotF
     Ok(())
 }
 
+// The least number that does not go into so many columns. Digits are not counted, since most callers know the width, and
+// this number with it.
+fn too_long_for(width: usize) -> u32
+    ensures { result ≡ (if nat_eq width 0 then 0 else 10 ^ min width 9) }
+{
+    match width {
+        0 => 0,
+        1 => 10,
+        2 => 100,
+        3 => 1_000,
+        4 => 10_000,
+        5 => 100_000,
+        6 => 1_000_000,
+        7 => 10_000_000,
+        8 => 100_000_000,
+        _ => TOO_LONG,
+    }
+}
+
 // Whether a number has at most nine digits, and they go into `width` columns.
 fn fits(width: usize, number: u32) -> bool
     ensures { Decides result (Fits width number) }
 {
-    number < TOO_LONG && digits(number) <= width
-}
-
-// How many digits a number is written with.
-fn digits(number: u32) -> usize
-    ensures { result ≡ length (decimal number) }
-{
-    number.max(1).ilog10() as usize + 1
+    number < too_long_for(width)
 }
 
 // Writes a number that fits into the whole field, the last digit first.
