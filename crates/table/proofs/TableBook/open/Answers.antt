@@ -1,5 +1,5 @@
 -- Both memories are made anew, and fresh rows mean a new book and hold exactly its rows.
-use Rattle.std.proofs.Common.{refl, ◌∙◌}
+use Rattle.std.proofs.Common.{refl, arith}
 use Rattle.book.specs.Meaning.{free}
 use Rattle.table.specs.Rows.{used, fresh, plain_row, row_of}
 use Rattle.table.proofs.Opened.{fresh_made, of_rows_fresh, exact_fresh}
@@ -9,8 +9,8 @@ pub returns : goal.returns
 returns c =
     let ms = c.args.materials.now in
     let us = c.args.units.now in
-    let made_ms = fresh_made plain_row ms c.from-count.result c.fill.new.self (c.from-count.ensures ∙ c.used.ensures) (c.fill.ensures.after (λ _ is. is)) in
-    let made_us = fresh_made (row_of free) us c.from-count-2.result c.fill-2.new.self (c.from-count-2.ensures ∙ c.used-2.ensures) (c.fill-2.ensures.after (λ _ is. is)) in
+    let made_ms = fresh_made plain_row ms _ c.fill.new.self (omega arith) (c.fill.ensures.after (λ _ is. is)) in
+    let made_us = fresh_made (row_of free) us _ c.fill-2.new.self (omega arith) (c.fill-2.ensures.after (λ _ is. is)) in
     rw (made_ms, made_us) (record {
       materials_there = refl;
       units_there = refl;
