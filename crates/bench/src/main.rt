@@ -17,7 +17,7 @@ fn run(rt: &HostRuntime, kind: &str, units: u16, times: u16) -> anyhow::Result<(
     let mut book = TableBook::open(material_rows.as_mut_slice(), unit_rows.as_mut_slice());
     // The kind is read last of the three words, so that a number that is none is told first.
     let kind = kind.parse::<Kind>()?;
-    // Said alone: why the book took no more is none of the words' fault.
+    // Said alone: by what the book was refused is not told.
     kind.make(&mut book, units)
         .map_err(|_| anyhow!("the book could not be made"))?;
     let mut drawn = 0u32;
